@@ -1,0 +1,6 @@
+pub mod Fields
+pub mod Head
+pub mod Ranges
+pub mod ReplyText
+pub mod RequestSpelling
+pub mod Stream

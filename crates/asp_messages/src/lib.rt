@@ -1,0 +1,15 @@
+//! Requests and replies of the state server protocol: the values, the texts that spell them, and the
+//! stream that a connection's bytes are.
+#![tactic(auto)]
+
+mod laws;
+mod ranges;
+mod reply;
+mod reply_text;
+mod request;
+
+pub use laws::{one_stream, waiting_is_short};
+pub use ranges::{MOST_BODY, MOST_COOKIE, MOST_KEY, MOST_MINUTES, reply_fits, request_fits};
+pub use reply::{Reply, status_of};
+pub use reply_text::{ReplyHead, reply_body, reply_head};
+pub use request::{Ask, Message, Request};
