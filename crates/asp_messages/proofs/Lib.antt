@@ -1,0 +1,3 @@
+pub mod FramingLemmas
+pub mod RequestLemmas
+pub mod StreamLemmas
