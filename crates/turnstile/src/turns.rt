@@ -154,7 +154,12 @@ impl<S: Stands + Drop> Turnstile<S> {
     }
 
     /// Waits until the ticket is served, and takes the state.
-    fn wait<R: Wait>(&self, rt: &R, seat: &mut Seat<Option<S>, SeatView<S::Entry>>, ticket: u64) -> S
+    fn wait<R: Wait>(
+        &self,
+        rt: &R,
+        seat: &mut Seat<Option<S>, SeatView<S::Entry>>,
+        ticket: u64,
+    ) -> S
         requires home { seat.old.table_id ≡ self.now.table.shared.table_id }
         requires holds { (seat.old.me.0.ticket ≡ Some ticket) × (seat.old.me.0.inside ≡ false) × (seat.old.me.1 ≡ []) }
         ensures home { seat.new.table_id ≡ seat.old.table_id }
@@ -191,13 +196,7 @@ impl<S: Stands + Drop> Turnstile<S> {
     }
 
     /// Gives the state back, which stands for one more entry, and answers the entry's place.
-    pub fn leave<R>(
-        &self,
-        _rt: &R,
-        pass: &mut TurnPass<S>,
-        turn: Turn<S>,
-        entry: &S::Entry,
-    ) -> u64
+    pub fn leave<R>(&self, _rt: &R, pass: &mut TurnPass<S>, turn: Turn<S>, entry: &S::Entry) -> u64
         requires home { pass_home pass.old ≡ turnstile_id self.now }
         requires turn { has_turn pass.old ≡ true }
         requires caller { S.caller entry.now ≡ caller_number pass.old }
