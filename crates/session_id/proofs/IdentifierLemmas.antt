@@ -68,10 +68,10 @@ unfolding is_text
 is_text-map ds size below =
     let long = eq-eqb (length (map character_of ds)) 24 (length-map ds character_of ∙ size) in
     let each : (d : ℕ) → d < 32 → nat_lt (digit_of (character_of d)) 32 ≡ true =
-        λ d lt. lt-ltb _ _ (rw (digit_of-character_of d lt) lt) in
+    λ d lt. lt-ltb _ _ (rw (digit_of-character_of d lt) lt) in
     let all = list_all-from_AllPass (λ c. nat_lt (digit_of c) 32) (map character_of ds)
-        (All-map (λ c. nat_lt (digit_of c) 32 ≡ true) character_of ds
-            (All-weaker (λ d. d < 32) (λ d. nat_lt (digit_of (character_of d)) 32 ≡ true) each ds below)) in
+    (All-map (λ c. nat_lt (digit_of c) 32 ≡ true) character_of ds
+    (All-weaker (λ d. d < 32) (λ d. nat_lt (digit_of (character_of d)) 32 ≡ true) each ds below)) in
     rw (long, all) refl
 
 -- ---- identifiers
@@ -121,7 +121,7 @@ same_text bytes text h =
 pub same_id : (a b text : List ℕ) → IsTextOf a text → IsTextOf b text → a ≡ b
 same_id a b text ha hb =
     same_from_number 256 a b ha.of_id.range hb.of_id.range (ha.of_id.length ∙ sym hb.of_id.length)
-        (sym ha.same_number ∙ hb.same_number)
+    (sym ha.same_number ∙ hb.same_number)
 
 -- two identifiers with one text are equal
 pub same_id_from_text_of : (a b : List ℕ) → IsId a → IsId b → text_of a ≡ text_of b → a ≡ b
@@ -162,9 +162,9 @@ is_text-from_each text size each =
 pub exact-some : (id text other : List ℕ) → IsTextOf id text → IsId other
     → (id ≡ other → text_of other ≡ text) × (text_of other ≡ text → id ≡ other)
 exact-some id text other h ok = (
-    λ e. ap text_of (sym e) ∙ sym (same_text id text h),
-    λ e. same_id id other text h (subst (IsTextOf other) e (IsTextOf-text_of other ok)),
-  )
+  λ e. ap text_of (sym e) ∙ sym (same_text id text h),
+  λ e. same_id id other text h (subst (IsTextOf other) e (IsTextOf-text_of other ok)),
+)
 
 -- where it reads none
 pub exact-none : (text other : List ℕ) → false ≡ is_text text → IsId other → text_of other ≡ text → ⊥
@@ -178,12 +178,12 @@ exact-none text other h ok e =
 -- a text is 24 characters of the alphabet
 pub is_text-characters : (text : List ℕ) → IsTrue (is_text text) ↔ ((length text ≡ 24) × All (Contains alphabet) text)
 is_text-characters text = (
-    λ h. (
-      length-text text h,
-      λ k d lt. Contains-alphabet (get_or text k d) (All-digit_of_text text h k d lt),
-    ),
-    λ h. is_text-from_each text h.0 (λ k lt. digit_of-Contains (get_or text k 0) (h.1 k 0 (omega (arith, h.0)))),
-  )
+  λ h. (
+    length-text text h,
+    λ k d lt. Contains-alphabet (get_or text k d) (All-digit_of_text text h k d lt),
+  ),
+  λ h. is_text-from_each text h.0 (λ k lt. digit_of-Contains (get_or text k 0) (h.1 k 0 (omega (arith, h.0)))),
+)
 
 -- each group of five bytes stands in a group of eight characters
 pub same_group : (id text : List ℕ) → IsTextOf id text → (k : ℕ) → k < 3
@@ -194,7 +194,7 @@ same_group id text h k lt =
     let of_text = number-part 32 ds (8 * k) 8 (All-digit_of text h.in_alphabet) (omega arith) (omega (arith, size)) in
     let of_id = number-part 256 id (5 * k) 5 h.of_id.range (omega arith) (omega (arith, h.of_id.length)) in
     let mapped : map digit_of (group 8 k text) ≡ take 8 (drop (8 * k) ds) =
-        sym (take-map digit_of 8 (drop (8 * k) text)) ∙ ap (take 8) (sym (drop-map digit_of (8 * k) text)) in
+    sym (take-map digit_of 8 (drop (8 * k) text)) ∙ ap (take 8) (sym (drop-map digit_of (8 * k) text)) in
     let same : number 32 ds / 32 ^ (8 * k) % 32 ^ 8 ≡ number 256 id / 256 ^ (5 * k) % 256 ^ 5 =
-        ap (λ n. n / 32 ^ (8 * k) % 32 ^ 8) h.same_number ∙ ap (λ p. number 256 id / p % 32 ^ 8) (same_place k lt) in
+    ap (λ n. n / 32 ^ (8 * k) % 32 ^ 8) h.same_number ∙ ap (λ p. number 256 id / p % 32 ^ 8) (same_place k lt) in
     ap (number 32) mapped ∙ of_text ∙ same ∙ sym of_id

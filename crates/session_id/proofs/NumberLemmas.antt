@@ -27,7 +27,7 @@ same_from_number b (x ∷ xs) [] hx hy l e = absurd (omega (arith, l))
 same_from_number b (x ∷ xs) (y ∷ ys) hx hy l e =
     let turned : number b xs * b + x ≡ number b ys * b + y = grind (arith, e) in
     let parts = same_from_place (number b xs) x (number b ys) y b
-        (All-head (λ n. n < b) x xs hx) (All-head (λ n. n < b) y ys hy) turned in
+    (All-head (λ n. n < b) x xs hx) (All-head (λ n. n < b) y ys hy) turned in
     let rest = same_from_number b xs ys (All-tail (λ n. n < b) x xs hx) (All-tail (λ n. n < b) y ys hy) (omega (arith, l)) parts.0 in
     let first = parts.1 in
     cc (first, rest)
@@ -57,11 +57,11 @@ number-step_lt b ds i h some within =
     let back : suc (i - 1) ≡ i = omega arith in
     let cut : drop (i - 1) ds ≡ get_or ds (i - 1) 0 ∷ drop i ds = rw back at (drop-cons ds (i - 1) 0 (omega arith)) in
     let part : number b (drop (i - 1) ds) < b ^ length (drop (i - 1) ds) =
-        number-lt b (drop (i - 1) ds) (All-drop (λ d. d < b) (i - 1) ds h) in
+    number-lt b (drop (i - 1) ds) (All-drop (λ d. d < b) (i - 1) ds h) in
     let value : number b (drop (i - 1) ds) ≡ get_or ds (i - 1) 0 + b * number b (drop i ds) = rw cut refl in
     let first : get_or ds (i - 1) 0 < b = All-get_or (λ d. d < b) ds (i - 1) 0 (omega arith) h in
     let wide : b ^ length (drop (i - 1) ds) ≤ b ^ length ds =
-        pow-le-pow_right (omega arith) (omega (arith, length-drop {A = ℕ})) in
+    pow-le-pow_right (omega arith) (omega (arith, length-drop {A = ℕ})) in
     omega (arith, part, value, wide)
 
 -- one more step of writing digits
@@ -106,7 +106,7 @@ number-part b (x ∷ xs) (suc at) count h some within =
     let turned : x + b * number b xs ≡ number b xs * b + x = grind arith in
     let high : (x + b * number b xs) / b ≡ number b xs = rw turned (div-mul-add (number b xs) b x head) in
     let deep : (x + b * number b xs) / b ^ suc at ≡ number b xs / b ^ at =
-        ap (λ p. (x + b * number b xs) / p) (pow-succ' b at) ∙ sym (div-div-eq-div-mul (x + b * number b xs) b (b ^ at)) ∙ ap (λ n. n / b ^ at) high in
+    ap (λ p. (x + b * number b xs) / p) (pow-succ' b at) ∙ sym (div-div-eq-div-mul (x + b * number b xs) b (b ^ at)) ∙ ap (λ n. n / b ^ at) high in
     rest ∙ ap (λ n. n % b ^ count) (sym deep)
 
 -- five bytes are eight digits in base 32

@@ -79,8 +79,7 @@ pub fn correspondence()
     ensures one_id { (a b text : List ℕ) → IsTextOf a text → IsTextOf b text → a ≡ b }
     ensures groups { (id text : List ℕ) → IsTextOf id text → (k : ℕ) → k < 3
         → number 32 (map digit_of (group 8 k text)) ≡ number 256 (group 5 k id) }
-{
-}
+{}
 
 // The digits that the text writes.
 fn read_digits(text: &[u8]) -> Option<[u8; 24]>

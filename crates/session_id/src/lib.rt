@@ -3,8 +3,12 @@
 #![tactic(auto)]
 
 mod digits;
+mod display;
 mod hexadecimal;
 mod id;
 
 pub use hexadecimal::read_hex;
-pub use id::Id;
+pub use id::{Id, correspondence};
+
+#[cfg(test)]
+mod tests;

@@ -17,4 +17,4 @@ pub returns : goal.returns
 unfolding digits
 returns c =
     fill_by_all (λ k. c.args.number / c.args.base ^ k % c.args.base) c.loop-i.digits (length c.args.digits.now) 0
-        (omega arith) (λ k lt. c.loop-i.invariant.written k (omega arith))
+    (omega arith) (λ k lt. c.loop-i.invariant.written k (omega arith))

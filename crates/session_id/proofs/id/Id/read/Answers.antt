@@ -20,13 +20,13 @@ reads : (text ds bytes : List ℕ) (n : ℕ) → true ≡ is_text text → ds �
     → bytes ≡ digits 256 15 n → IsTextOf bytes text
 reads text ds bytes n is mapped value written =
     let same : bytes ≡ digits 256 15 (number 32 (map digit_of text)) =
-        written ∙ ap (digits 256 15) (value ∙ ap (number 32) mapped) in
+    written ∙ ap (digits 256 15) (value ∙ ap (number 32) mapped) in
     subst (λ (b : List ℕ). IsTextOf b text) (sym same) (IsTextOf-digits text (sym is))
 
 pub returns-clause-value : goal.returns-clause-value
 returns-clause-value c =
     reads c.args.text.now c.in_ok-digits.digits c.write_digits.new.digits c.number_of.result
-        c.in_ok-digits.ensures.found c.in_ok-digits.ensures.value c.number_of.ensures c.write_digits.ensures
+    c.in_ok-digits.ensures.found c.in_ok-digits.ensures.value c.number_of.ensures c.write_digits.ensures
 
 pub returns-clause-exact : goal.returns-clause-exact
 returns-clause-exact c id ok =

@@ -9,7 +9,7 @@ pub bounds-digits : goal.bounds-digits
 bounds-digits c =
     let ds = c.write_digits.new.digits in
     let below : All (λ d. d < 32) ds =
-        subst (All (λ d. d < 32)) (sym c.write_digits.ensures) (All-digits 32 24 c.number_of_bytes.result (omega arith)) in
+    subst (All (λ d. d < 32)) (sym c.write_digits.ensures) (All-digits 32 24 c.number_of_bytes.result (omega arith)) in
     let size : length ds ≡ 24 = ap length c.write_digits.ensures ∙ length-digits 32 24 c.number_of_bytes.result in
     All-get_or (λ d. d < 32) ds c.loop-i.i 0 (omega arith) below
 
@@ -25,8 +25,8 @@ written text ds bytes now n size each is value view =
 pub returns-clause-value : goal.returns-clause-value
 returns-clause-value c =
     written c.loop-i.text c.write_digits.new.digits c.self.inside.bytes c.args.self.now c.number_of_bytes.result
-        c.loop-i.invariant.size (λ k lt. c.loop-i.invariant.written k (omega arith))
-        c.write_digits.ensures c.number_of_bytes.ensures.number c.self.view_is
+    c.loop-i.invariant.size (λ k lt. c.loop-i.invariant.written k (omega arith))
+    c.write_digits.ensures c.number_of_bytes.ensures.number c.self.view_is
 
 pub returns-clause-written : goal.returns-clause-written
 returns-clause-written c =
