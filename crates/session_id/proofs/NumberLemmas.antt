@@ -1,13 +1,13 @@
 -- Facts on the digits of a number, the lowest digit first.
-use Rattle.std.proofs.Common.{◌≡◌, ℕ, zero, suc, ◌+◌, ◌-◌, ◌*◌, ◌/◌, ◌%◌, ◌^◌, ◌<◌, ◌≤◌, List, [], ◌∷◌, ◌++◌, length, get_or, take, drop, map, All, refl, sym, ap, ◌∙◌, add-one, arith, Fits, w8}
+use Rattle.std.proofs.Common.{◌≡◌, ℕ, zero, suc, ◌+◌, ◌-◌, ◌*◌, ◌/◌, ◌%◌, ◌^◌, ◌<◌, ◌≤◌, List, [], ◌∷◌, length, get_or, take, drop, map, All, refl, sym, ap, ◌∙◌, add-one, arith, Fits, w8}
 use Rattle.std.specs.List.{range_with_len}
-use Rattle.std.proofs.Math.Nat.{pow-suc, pow-zero, mod-lt, mod-one, one-le-pow, pow-le-pow_right, pow-succ', div-one, div-div-eq-div-mul, mod-eq_of_lt}
+use Rattle.std.proofs.Math.Nat.{pow-suc, pow-zero, mod-lt, mod-one, one-le-pow, pow-le-pow_right, pow-succ', div-one, div-div-eq-div-mul}
 use Rattle.std.proofs.Math.Arith.{mod-mul}
 use Rattle.std.proofs.lemmas.Nat.{div-mul-add, mod-mul-add, mul-add-lt, same_from_place}
 use Rattle.std.proofs.lemmas.List.Elements.{All-cons, All-drop, All-from_get_or, All-get_or, All-head, All-nil, All-tail}
 use Rattle.std.proofs.lemmas.List.{length-drop}
 use Rattle.std.proofs.Math.Seq.{drop-cons}
-use Rattle.session_id.specs.Identifiers.{number, digits}
+use Rattle.session_id.specs.Identifiers.{number}
 
 -- digits below the base write a number below its power
 pub number-lt : (b : ℕ) (ds : List ℕ) → All (λ d. d < b) ds → number b ds < b ^ length ds

@@ -1,5 +1,4 @@
-use Rattle.std.proofs.Common.{◌≡◌, ◌+◌, ◌-◌, ◌*◌, ◌^◌, ◌<◌, ◌≤◌, length, drop, get_or, arith, sym}
-use Rattle.session_id.specs.Identifiers.{number}
+use Rattle.std.proofs.Common.{arith, sym}
 use Rattle.session_id.proofs.NumberLemmas.{number-step_lt}
 use Rattle.session_id.proofs.digits.number_of.Goals as goal
 

@@ -1,4 +1,4 @@
-use Rattle.std.proofs.Common.{◌≡◌, ◌+◌, ◌/◌, ◌%◌, ◌^◌, ◌<◌, ℕ, length, get_or, arith, sym, ◌∙◌}
+use Rattle.std.proofs.Common.{◌/◌, ◌%◌, ◌^◌, length, arith}
 use Rattle.std.proofs.lemmas.List.Edits.{fill_by_more}
 use Rattle.std.proofs.lemmas.List.FromFn.{fill_by_all}
 use Rattle.session_id.specs.Identifiers.{digits}

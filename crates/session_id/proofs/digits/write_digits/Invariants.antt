@@ -1,4 +1,4 @@
-use Rattle.std.proofs.Common.{◌≡◌, ◌<◌, ◌/◌, ◌%◌, ◌^◌, ℕ, get_or, length}
+use Rattle.std.proofs.Common.{◌≡◌, ◌<◌, ◌/◌, ◌%◌, ◌^◌, ℕ, get_or}
 use Rattle.session_id.proofs.digits.write_digits.Given as goal
 
 abbrev pub invariant-loop-i : goal.invariant-loop-i

@@ -1,6 +1,5 @@
-use Rattle.std.proofs.Common.{arith, sym, ◌≡◌, ◌-◌, ◌≤◌, false}
-use Rattle.session_id.specs.Identifiers.{digit_of}
-use Rattle.session_id.proofs.AlphabetLemmas.{digit_of-letter, digit_of-figure, digit_of-none, in_ranges}
+use Rattle.std.proofs.Common.{arith, sym}
+use Rattle.session_id.proofs.AlphabetLemmas.{digit_of-letter, digit_of-figure, digit_of-none}
 use Rattle.std.proofs.lemmas.Bool.Decides.{nat_tests}
 use Rattle.session_id.proofs.id.digit.Goals as goal
 

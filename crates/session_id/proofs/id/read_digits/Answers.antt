@@ -1,4 +1,4 @@
-use Rattle.std.proofs.Common.{◌≡◌, arith, sym, ap, ◌∙◌}
+use Rattle.std.proofs.Common.{arith, sym}
 use Rattle.session_id.specs.Identifiers.{digit_of}
 use Rattle.session_id.proofs.NumberLemmas.{map-from_each}
 use Rattle.session_id.proofs.IdentifierLemmas.{is_text-wrong_length, is_text-outside, is_text-from_each}

@@ -1,7 +1,6 @@
-use Rattle.std.proofs.Common.{◌≡◌, ◌<◌, ◌^◌, List, ℕ, length, map, true, Option, Some, None, All, arith, sym, ap, ◌∙◌, subst}
+use Rattle.std.proofs.Common.{◌≡◌, ◌<◌, List, ℕ, map, true, Some, All, sym, ap, ◌∙◌, subst}
 use Rattle.std.proofs.lemmas.Option.{none-some, same_Some}
-use Rattle.std.proofs.lemmas.List.{length-map}
-use Rattle.session_id.specs.Identifiers.{digit_of, digits, is_text, number, text_of, IsId, IsTextOf}
+use Rattle.session_id.specs.Identifiers.{digit_of, digits, is_text, number, IsTextOf}
 use Rattle.session_id.proofs.IdentifierLemmas.{All-digit_of, exact-none, exact-some, IsTextOf-digits}
 use Rattle.session_id.proofs.id.Id.read.Goals as goal
 
