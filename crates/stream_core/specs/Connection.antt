@@ -1,5 +1,5 @@
 -- A connection, as its callers see it.
-use Rattle.std.specs.Prelude.{◌⊎◌, ◌≢◌, [], Bool, true, false, IsTrue}
+use Rattle.std.specs.Prelude.{◌≡◌, [], Bool, true, false, IsFalse}
 use Rattle.message_framing.specs.Held.{Held}
 use Rattle.request_reader.specs.declared.reader.Next.{Next}
 use Rattle.request_reader.specs.declared.reader.Next.TheVariants as nexts
@@ -9,9 +9,9 @@ pub record Connection : Type 0 where
   pub reader : Held
   pub is_due : Bool
 
--- the bytes held are no whole messages: the reader is broken, or holds a byte
-abbrev pub IsUnfinished : Connection → Type 0
-IsUnfinished c = IsTrue c.reader.is_broken ⊎ (c.reader.held ≢ [])
+-- all bytes were whole messages that were taken: the reader is not broken and holds no byte
+abbrev pub IsFinished : Connection → Type 0
+IsFinished c = IsFalse c.reader.is_broken × (c.reader.held ≡ [])
 
 -- a message was given
 abbrev pub is_message : Next → Bool

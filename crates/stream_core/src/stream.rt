@@ -1,5 +1,5 @@
 //! A stream of requests, each answered before the next is taken.
-ghost use Rattle.std.specs.Prelude.{◌⊎◌, ◌≡◌, ◌≢◌, ◌≤◌, ◌↔◌, [], length, IsTrue, IsFalse, IsSome, IfSome, OnOk, OnErr, true, false};
+ghost use Rattle.std.specs.Prelude.{◌⊎◌, ◌≡◌, ◌≤◌, ◌↔◌, length, IsTrue, IsFalse, IsNone, IfSome, OnOk, OnErr, true, false};
 ghost use Rattle.asp_messages.specs.declared.reply.Reply.TheVariants.{Bad};
 ghost use Rattle.asp_messages.specs.Fields.{request_fields};
 ghost use Rattle.asp_messages.specs.Head.{IsRequestHead};
@@ -9,7 +9,7 @@ ghost use Rattle.asp_messages.specs.RequestSpelling.{SpellsRequest};
 ghost use Rattle.asp_messages.specs.Stream.{HasNoMessage, IsHopeless, IsWaiting};
 ghost use Rattle.message_framing.specs.Held.{empty_reader, fed, waiting, broken, most_held, most_piece, TakesMessage};
 ghost use Rattle.request_reader.specs.Next.{IfNext};
-ghost use Rattle.stream_core.specs.Connection.{IsUnfinished, is_message};
+ghost use Rattle.stream_core.specs.Connection.{IsFinished, is_message};
 
 use asp_base::NoMemory;
 use asp_messages::{Reply, ReplyHead, reply_head};
@@ -90,7 +90,7 @@ impl Stream {
     /// The head of the last `Bad` reply, where the bytes are no whole messages: the stream is broken, or
     /// holds a byte. It takes no memory.
     pub fn finish(&mut self) -> Option<ReplyHead>
-        ensures unfinished { IsSome result ↔ IsUnfinished self.old }
+        ensures finished { IsNone result ↔ IsFinished self.old }
         ensures head { IfSome result (λ head. head ≡ head_text Bad) }
         ensures same { self.new ≡ self.old }
     {
