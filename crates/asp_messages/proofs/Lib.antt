@@ -1,3 +1,5 @@
+pub mod AppendLemmas
 pub mod FramingLemmas
 pub mod RequestLemmas
 pub mod StreamLemmas
+pub mod TargetLemmas
