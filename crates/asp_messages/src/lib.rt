@@ -10,6 +10,7 @@ mod reply;
 mod reply_text;
 mod request;
 mod request_text;
+mod wire;
 
 pub use laws::{one_stream, waiting_is_short};
 pub use plain::{spell_ask, spell_reply};
@@ -18,3 +19,4 @@ pub use reply::{Reply, status_of};
 pub use reply_text::{ReplyHead, reply_body, reply_head};
 pub use request::{Ask, Message, Request};
 pub use request_text::write_request;
+pub use wire::{one_reply_stream, reply_round_trip, request_round_trip, waiting_reply_is_short};

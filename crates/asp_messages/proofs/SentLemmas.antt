@@ -1,0 +1,132 @@
+-- Heads that are written are heads of the grammar.
+use Rattle.std.proofs.Common.{◌≡◌, ℕ, ◌+◌, ◌*◌, ◌<◌, ◌≤◌, ◌^◌, Bool, true, IsTrue, List, [], ◌∷◌, ◌++◌, map, length, Option, Some, None, All, IsUtf8, refl, sym, ap, ◌∙◌, subst, arith, append_assoc, length-append}
+use Rattle.std.specs.Prelude.{codes, decimal, ⊤}
+use Rattle.std.specs.List.{flat_map, list_all}
+use Rattle.std.specs.Char.{is_ascii_digit}
+use Rattle.std.specs.Str.Parse.{digits_value}
+use Rattle.std.proofs.lemmas.List.Elements.{All-nil, All-cons}
+use Rattle.std.proofs.lemmas.List.Sums.{AllPass-from_list_all}
+use Rattle.httparse.specs.Grammar.{AllPass, IsToken, IsField, LineEnd, crlf, RequestHead, IsRequestHead, print_request, ResponseHead, IsResponseHead, print_response, is_token_byte, is_uri_byte, is_value_byte, field_value, trim_ows, print_field, print_section, Field as Line, status_code}
+use Rattle.httparse.specs.Spans.{name_and_value}
+use Rattle.httparse.proofs.OnLiterals.{httparse_on_literals}
+use Rattle.asp_messages.specs.declared.request.Message.{Message}
+use Rattle.asp_messages.specs.Fields.{Field, body_length, request_fields, response_fields}
+use Rattle.asp_messages.specs.Head as heads
+use Rattle.asp_messages.specs.ReplySpelling.{Answer, SpellsReply, answer_of}
+use Rattle.asp_messages.specs.ReplyText.{line}
+use Rattle.asp_messages.specs.RequestSpelling.{SpellsRequest, message_of}
+use Rattle.asp_messages.proofs.DecimalLemmas.{decimal-short, decimal-trimmed, decimal-value}
+
+-- ---- fields
+
+-- the line of a field, as the grammar has it
+abbrev pub sent : Field → Line
+sent f = record { name = f.0; raw = 32 ∷ f.1; end = crlf }
+
+-- the bytes of the line
+abbrev pub field_line : Field → List ℕ
+field_line f = line (f.0 ++ codes ": " ++ f.1)
+
+abbrev pub field_lines : List Field → List ℕ
+field_lines fields = flat_map field_line fields
+
+-- a field that is read as it is written
+pub record IsSent (f : Field) : Type 0 where
+  pub name : IsToken f.0
+  pub value : AllPass is_value_byte f.1
+  pub trimmed : trim_ows (32 ∷ f.1) ≡ f.1
+  pub short : length f.0 + length f.1 ≤ 40
+
+abbrev pub AreSent : List Field → Type 0
+AreSent [] = ⊤
+AreSent (f ∷ fs) = IsSent f × AreSent fs
+
+print_sent : (f : Field) → print_field (sent f) ≡ field_line f
+print_sent f = simp append_assoc
+
+print_lines : (fs : List Field) → flat_map print_field (map sent fs) ≡ field_lines fs
+print_lines [] = refl
+print_lines (f ∷ fs) = ap (λ t. t ++ flat_map print_field (map sent fs)) (print_sent f) ∙ ap (λ t. field_line f ++ t) (print_lines fs)
+
+read_back : (fs : List Field) → AreSent fs → map name_and_value (map sent fs) ≡ fs
+read_back [] h = refl
+read_back (f ∷ fs) (one, others) = rw (one.trimmed, read_back fs others) refl
+
+are_fields : (fs : List Field) → AreSent fs → All IsField (map sent fs)
+are_fields [] h = All-nil IsField
+are_fields (f ∷ fs) (one, others) =
+    All-cons IsField (sent f) (map sent fs) (record { name = one.name; raw = All-cons (λ b. IsTrue (is_value_byte b)) 32 f.1 refl one.value }) (are_fields fs others)
+
+lines-short : (fs : List Field) → AreSent fs → length (field_lines fs) ≤ 44 * length fs
+lines-short [] h = omega arith
+lines-short (f ∷ fs) (one, others) =
+    let rest = lines-short fs others in
+    let len = simp length-append at (refl {x = length (field_line f ++ field_lines fs)}) in
+    omega (arith, one.short, rest, length-append (field_line f) (field_lines fs), length-append (f.0 ++ codes ": " ++ f.1) (codes "\r\n"), length-append (f.0 ++ codes ": ") f.1, length-append f.0 (codes ": "))
+
+-- a field whose parts are written out
+pub sent_literal : (name value : List ℕ) → list_all is_token_byte name ≡ true → 0 < length name → list_all is_value_byte value ≡ true
+    → trim_ows (32 ∷ value) ≡ value → length name + length value ≤ 40 → IsSent (name, value)
+sent_literal name value token some pass trimmed short = record {
+  name = (some, AllPass-from_list_all is_token_byte name token);
+  value = AllPass-from_list_all is_value_byte value pass;
+  trimmed = trimmed;
+  short = short;
+}
+
+-- a field with a number
+pub sent_number : (name : List ℕ) (n : ℕ) → list_all is_token_byte name ≡ true → 0 < length name → length name ≤ 20 → n < 2 ^ 64 → IsSent (name, decimal n)
+sent_number name n token some short small = record {
+  name = (some, AllPass-from_list_all is_token_byte name token);
+  value = decimal-value n small;
+  trimmed = decimal-trimmed n small;
+  short = omega (arith, decimal-short n small);
+}
+
+-- ---- heads
+
+abbrev sent_reply : List ℕ → List ℕ → List Field → ResponseHead
+sent_reply digits phrase fields = record {
+  blank = [];
+  minor = 1;
+  digits = digits;
+  reason = Some phrase;
+  line_end = crlf;
+  fields = map sent fields;
+  last = crlf;
+}
+
+abbrev pub reply_lines : List ℕ → List ℕ → List Field → List ℕ
+reply_lines digits phrase fields = line (codes "HTTP/1.1 " ++ digits ++ codes " " ++ phrase) ++ field_lines fields ++ line []
+
+print_sent_reply : (digits phrase : List ℕ) (fields : List Field) → print_response (sent_reply digits phrase fields) ≡ reply_lines digits phrase fields
+unfolding print_response
+print_sent_reply digits phrase fields = rw (print_lines fields) (simp append_assoc)
+
+-- what is written of a reply spells it
+pub reply_sent : (digits phrase : List ℕ) (fields : List Field) (body : List ℕ) (answer : Answer)
+    → list_all is_ascii_digit digits ≡ true → length digits ≡ 3 → list_all is_value_byte phrase ≡ true → length phrase ≤ 40
+    → AreSent fields → length fields ≤ 5 → body_length fields ≡ Some (length body) → answer ≡ answer_of (digits_value 10 digits) fields body
+    → SpellsReply (reply_lines digits phrase fields ++ body) answer
+reply_sent digits phrase fields body answer all three text short are few announced is =
+    let head = sent_reply digits phrase fields in
+    let same = read_back fields are in record {
+      head = head;
+      body = body;
+      framed = record {
+        front = reply_lines digits phrase fields;
+        bytes_are = refl;
+        is_head = record {
+          reads = (record {
+            minor = omega arith;
+            digits = (three, AllPass-from_list_all is_ascii_digit digits all);
+            reason = AllPass-from_list_all is_value_byte phrase text;
+            fields = are_fields fields are;
+          }, ?);
+          short = ?;
+          few = ?;
+        };
+        announced = rw same announced;
+      };
+      answer_is = rw same is;
+    }
