@@ -1,7 +1,9 @@
 pub mod AppendLemmas
 pub mod DecimalLemmas
 pub mod FramingLemmas
+pub mod ReplyLemmas
 pub mod RequestLemmas
 pub mod SentLemmas
+pub mod SentReplyLemmas
 pub mod StreamLemmas
 pub mod TargetLemmas

@@ -1,13 +1,15 @@
 -- Heads that are written are heads of the grammar.
-use Rattle.std.proofs.Common.{◌≡◌, ℕ, ◌+◌, ◌*◌, ◌<◌, ◌≤◌, ◌^◌, Bool, true, IsTrue, List, [], ◌∷◌, ◌++◌, map, length, Option, Some, None, All, IsUtf8, refl, sym, ap, ◌∙◌, subst, arith, append_assoc, length-append}
+use Rattle.std.proofs.Common.{◌≡◌, ℕ, ◌+◌, ◌*◌, ◌<◌, ◌≤◌, ◌^◌, Bool, true, IsTrue, List, [], ◌∷◌, ◌++◌, map, length, Option, Some, None, All, IsUtf8, refl, sym, ap, ◌∙◌, subst, arith, append_assoc, append-nil, length-append}
 use Rattle.std.specs.Prelude.{codes, decimal, ⊤}
 use Rattle.std.specs.List.{flat_map, list_all}
 use Rattle.std.specs.Char.{is_ascii_digit}
 use Rattle.std.specs.Str.Parse.{digits_value}
 use Rattle.std.proofs.lemmas.List.Elements.{All-nil, All-cons}
+use Rattle.std.proofs.lemmas.List.{length-map}
 use Rattle.std.proofs.lemmas.List.Sums.{AllPass-from_list_all}
 use Rattle.httparse.specs.Grammar.{AllPass, IsToken, IsField, LineEnd, crlf, RequestHead, IsRequestHead, print_request, ResponseHead, IsResponseHead, print_response, is_token_byte, is_uri_byte, is_value_byte, field_value, trim_ows, print_field, print_section, Field as Line, status_code}
 use Rattle.httparse.specs.Spans.{name_and_value}
+use Rattle.httparse.proofs.GrammarLemmas.{cons-append}
 use Rattle.httparse.proofs.OnLiterals.{httparse_on_literals}
 use Rattle.asp_messages.specs.declared.request.Message.{Message}
 use Rattle.asp_messages.specs.Fields.{Field, body_length, request_fields, response_fields}
@@ -61,7 +63,6 @@ lines-short : (fs : List Field) → AreSent fs → length (field_lines fs) ≤ 4
 lines-short [] h = omega arith
 lines-short (f ∷ fs) (one, others) =
     let rest = lines-short fs others in
-    let len = simp length-append at (refl {x = length (field_line f ++ field_lines fs)}) in
     omega (arith, one.short, rest, length-append (field_line f) (field_lines fs), length-append (f.0 ++ codes ": " ++ f.1) (codes "\r\n"), length-append (f.0 ++ codes ": ") f.1, length-append f.0 (codes ": "))
 
 -- a field whose parts are written out
@@ -99,9 +100,30 @@ sent_reply digits phrase fields = record {
 abbrev pub reply_lines : List ℕ → List ℕ → List Field → List ℕ
 reply_lines digits phrase fields = line (codes "HTTP/1.1 " ++ digits ++ codes " " ++ phrase) ++ field_lines fields ++ line []
 
+reply_tail : (d p f : List ℕ) → d ++ (32 ∷ p) ++ (13 ∷ 10 ∷ []) ++ (f ++ (13 ∷ 10 ∷ [])) ≡ d ++ (32 ∷ []) ++ p ++ (13 ∷ 10 ∷ []) ++ f ++ (13 ∷ 10 ∷ [])
+reply_tail d p f = simp (append_assoc, cons-append)
+
 print_sent_reply : (digits phrase : List ℕ) (fields : List Field) → print_response (sent_reply digits phrase fields) ≡ reply_lines digits phrase fields
 unfolding print_response
-print_sent_reply digits phrase fields = rw (print_lines fields) (simp append_assoc)
+print_sent_reply digits phrase fields =
+    ap (λ f. codes "HTTP/1.1 " ++ (digits ++ (32 ∷ phrase) ++ (13 ∷ 10 ∷ []) ++ (f ++ (13 ∷ 10 ∷ [])))) (print_lines fields)
+    ∙ ap (λ t. codes "HTTP/1.1 " ++ t) (reply_tail digits phrase (field_lines fields))
+
+reply_lines-short : (digits phrase : List ℕ) (fields : List Field) → length digits ≡ 3 → length phrase ≤ 40 → AreSent fields → length fields ≤ 5
+    → length (reply_lines digits phrase fields) ≤ heads.most_head
+reply_lines-short digits phrase fields three short are few =
+    let first = codes "HTTP/1.1 " in
+    let lines = lines-short fields are in
+    omega (
+      arith,
+      lines,
+      length-append (line (first ++ digits ++ codes " " ++ phrase) ++ field_lines fields) (line []),
+      length-append (line (first ++ digits ++ codes " " ++ phrase)) (field_lines fields),
+      length-append (first ++ digits ++ codes " " ++ phrase) (codes "\r\n"),
+      length-append (first ++ digits ++ codes " ") phrase,
+      length-append (first ++ digits) (codes " "),
+      length-append first digits,
+    )
 
 -- what is written of a reply spells it
 pub reply_sent : (digits phrase : List ℕ) (fields : List Field) (body : List ℕ) (answer : Answer)
@@ -122,9 +144,9 @@ reply_sent digits phrase fields body answer all three text short are few announc
             digits = (three, AllPass-from_list_all is_ascii_digit digits all);
             reason = AllPass-from_list_all is_value_byte phrase text;
             fields = are_fields fields are;
-          }, ?);
-          short = ?;
-          few = ?;
+          }, sym (append-nil (print_response head) ∙ print_sent_reply digits phrase fields));
+          short = reply_lines-short digits phrase fields three short are few;
+          few = omega (arith, few, length-map fields sent);
         };
         announced = rw same announced;
       };
