@@ -139,16 +139,91 @@ reply_sent digits phrase fields body answer all three text short are few announc
         front = reply_lines digits phrase fields;
         bytes_are = refl;
         is_head = record {
-          reads = (record {
-            minor = omega arith;
-            digits = (three, AllPass-from_list_all is_ascii_digit digits all);
-            reason = AllPass-from_list_all is_value_byte phrase text;
-            fields = are_fields fields are;
-          }, sym (append-nil (print_response head) ∙ print_sent_reply digits phrase fields));
+          reads = (
+            record {
+              minor = omega arith;
+              digits = (three, AllPass-from_list_all is_ascii_digit digits all);
+              reason = AllPass-from_list_all is_value_byte phrase text;
+              fields = are_fields fields are;
+            },
+            sym (append-nil (print_response head) ∙ print_sent_reply digits phrase fields),
+          );
           short = reply_lines-short digits phrase fields three short are few;
           few = omega (arith, few, length-map fields sent);
         };
         announced = rw same announced;
       };
       answer_is = rw same is;
+    }
+
+abbrev sent_request : List ℕ → List ℕ → List Field → RequestHead
+sent_request verb target fields = record {
+  blank = [];
+  method = verb;
+  target = target;
+  minor = 1;
+  line_end = crlf;
+  fields = map sent fields;
+  last = crlf;
+}
+
+abbrev pub request_lines : List ℕ → List ℕ → List Field → List ℕ
+request_lines verb target fields = line (verb ++ codes " " ++ target ++ codes " HTTP/1.1") ++ field_lines fields ++ line []
+
+request_tail : (m t v f : List ℕ)
+    → m ++ (32 ∷ t) ++ (32 ∷ v) ++ (13 ∷ 10 ∷ []) ++ (f ++ (13 ∷ 10 ∷ [])) ≡ m ++ (32 ∷ []) ++ t ++ (32 ∷ v) ++ (13 ∷ 10 ∷ []) ++ f ++ (13 ∷ 10 ∷ [])
+request_tail m t v f = simp (append_assoc, cons-append)
+
+print_sent_request : (verb target : List ℕ) (fields : List Field) → print_request (sent_request verb target fields) ≡ request_lines verb target fields
+unfolding print_request
+print_sent_request verb target fields =
+    ap (λ f. verb ++ (32 ∷ target) ++ (32 ∷ codes "HTTP/1.1") ++ (13 ∷ 10 ∷ []) ++ (f ++ (13 ∷ 10 ∷ []))) (print_lines fields)
+    ∙ request_tail verb target (codes "HTTP/1.1") (field_lines fields)
+
+request_lines-short : (verb target : List ℕ) (fields : List Field) → length verb ≤ 40 → length target ≤ 3072 → AreSent fields → length fields ≤ 5
+    → length (request_lines verb target fields) ≤ heads.most_head
+request_lines-short verb target fields brief short are few =
+    let lines = lines-short fields are in
+    omega (
+      arith,
+      lines,
+      length-append (line (verb ++ codes " " ++ target ++ codes " HTTP/1.1") ++ field_lines fields) (line []),
+      length-append (line (verb ++ codes " " ++ target ++ codes " HTTP/1.1")) (field_lines fields),
+      length-append (verb ++ codes " " ++ target ++ codes " HTTP/1.1") (codes "\r\n"),
+      length-append (verb ++ codes " " ++ target) (codes " HTTP/1.1"),
+      length-append (verb ++ codes " ") target,
+      length-append verb (codes " "),
+    )
+
+-- what is written of a request spells it
+pub request_sent : (verb target : List ℕ) (fields : List Field) (body : List ℕ) (m : Message)
+    → list_all is_token_byte verb ≡ true → 0 < length verb → length verb ≤ 40
+    → 0 < length target → length target ≤ 3072 → AllPass is_uri_byte target → IsUtf8 target
+    → AreSent fields → length fields ≤ 5 → body_length fields ≡ Some (length body) → m ≡ message_of verb target fields body
+    → SpellsRequest (request_lines verb target fields ++ body) m
+request_sent verb target fields body m token some brief some_target short uri text are few announced is =
+    let head = sent_request verb target fields in
+    let same = read_back fields are in record {
+      head = head;
+      body = body;
+      framed = record {
+        front = request_lines verb target fields;
+        bytes_are = refl;
+        is_head = record {
+          reads = (
+            record {
+              method = (some, AllPass-from_list_all is_token_byte verb token);
+              target = (some_target, uri);
+              target_text = text;
+              minor = omega arith;
+              fields = are_fields fields are;
+            },
+            sym (append-nil (print_request head) ∙ print_sent_request verb target fields),
+          );
+          short = request_lines-short verb target fields brief short are few;
+          few = omega (arith, few, length-map fields sent);
+        };
+        announced = rw same announced;
+      };
+      message_is = rw same is;
     }

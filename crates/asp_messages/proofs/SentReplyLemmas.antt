@@ -14,7 +14,8 @@ use Rattle.asp_messages.specs.Ranges.{ReplyFits}
 use Rattle.asp_messages.specs.ReplySpelling.{Answer, reply, SpellsReply, answer_of, strange_unless, reply_of, found_reply, locked_reply, most_age}
 use Rattle.asp_messages.specs.ReplyText.{line, ending, head_text, body_of, reply_text}
 use Rattle.asp_messages.proofs.DecimalLemmas.{number_or-decimal, number_needed-decimal, minutes-decimal, named-some}
-use Rattle.asp_messages.proofs.SentLemmas.{IsSent, AreSent, field_line, reply_lines, reply_sent, sent_literal, sent_number}
+use Rattle.asp_messages.proofs.SentFieldLemmas.{timeout_pair, timeout_sent, lock_pair, lock_sent, age_pair, age_sent, length_pair, length_sent, first_pair, first_sent, announced}
+use Rattle.asp_messages.proofs.SentLemmas.{IsSent, AreSent, field_line, reply_lines, reply_sent}
 
 -- ---- the lines one after another
 
@@ -26,43 +27,6 @@ behind_three s a b l e = simp (append_assoc, append-nil)
 
 behind_one : (s l e : List ℕ) → s ++ [] ++ (l ++ e) ≡ s ++ (l ++ []) ++ e
 behind_one s l e = simp (append_assoc, append-nil)
-
--- ---- the fields of replies
-
-abbrev timeout_pair : ℕ → Field
-timeout_pair n = (codes "Timeout", decimal n)
-
-abbrev lock_pair : ℕ → Field
-lock_pair n = (codes "LockCookie", decimal n)
-
-abbrev age_pair : ℕ → Field
-age_pair n = (codes "LockAge", decimal n)
-
-abbrev length_pair : ℕ → Field
-length_pair n = (codes "Content-Length", decimal n)
-
-abbrev first_pair : Field
-first_pair = (codes "ActionFlags", codes "1")
-
-timeout_sent : (n : ℕ) → n < 2 ^ 64 → IsSent (timeout_pair n)
-unfolding is_token_byte
-timeout_sent n small = sent_number (codes "Timeout") n refl (omega arith) (omega arith) small
-
-lock_sent : (n : ℕ) → n < 2 ^ 64 → IsSent (lock_pair n)
-unfolding is_token_byte
-lock_sent n small = sent_number (codes "LockCookie") n refl (omega arith) (omega arith) small
-
-age_sent : (n : ℕ) → n < 2 ^ 64 → IsSent (age_pair n)
-unfolding is_token_byte
-age_sent n small = sent_number (codes "LockAge") n refl (omega arith) (omega arith) small
-
-length_sent : (n : ℕ) → n < 2 ^ 64 → IsSent (length_pair n)
-unfolding is_token_byte
-length_sent n small = sent_number (codes "Content-Length") n refl (omega arith) (omega arith) small
-
-first_sent : IsSent first_pair
-unfolding is_token_byte trim_ows
-first_sent = sent_literal (codes "ActionFlags") (codes "1") refl (omega arith) refl refl (omega arith)
 
 -- ---- replies
 
@@ -76,9 +40,6 @@ by_lines : (r : Reply) (digits phrase : List ℕ) (fields : List Field)
 by_lines r digits phrase fields text all three pass short are few announced is =
     subst (λ t. SpellsReply (t ++ body_of r) (reply r)) (sym text)
     (reply_sent digits phrase fields (body_of r) (reply r) all three pass short are few announced (sym (ap (strange_unless (digits_value 10 digits)) is)))
-
-announced : (n : ℕ) → n ≤ most_body → number_or 0 0 most_body (one (decimal n)) ≡ Some n
-announced n short = number_or-decimal 0 0 most_body n (omega arith) (omega arith) short
 
 -- a status that says all by itself
 plain : (r : Reply) (digits phrase : List ℕ)
@@ -157,7 +118,7 @@ locked cookie age range young =
     (lock_sent cookie (omega arith), (age_sent age (omega arith), (length_sent 0 (omega arith), tt))) (omega arith)
     (announced 0 (omega arith))
     (ap (λ c. locked_reply c (number_needed most_age (one (decimal age)))) (number_needed-decimal most_cookie cookie (omega arith) (omega arith))
-        ∙ ap (λ a. locked_reply (Some cookie) a) (number_needed-decimal most_age age (omega arith) (omega arith)))
+    ∙ ap (λ a. locked_reply (Some cookie) a) (number_needed-decimal most_age age (omega arith) (omega arith)))
 
 pub reply_spelled : (r : Reply) → ReplyFits r → SpellsReply (reply_text r) (reply r)
 unfolding head_text reply_of is_same_name number_of
