@@ -1,2 +1,5 @@
 pub mod PlainRun
+pub mod Progress
+pub mod Reading
 pub mod Replying
+pub mod Run

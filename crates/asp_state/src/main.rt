@@ -1,7 +1,10 @@
 //! The program `asp_state`: the out-of-process session state of ASP.NET.
 #![tactic(auto)]
 
+mod answering;
 mod pipe;
+mod reading;
 mod server;
+mod writing;
 
 fn main() {}
