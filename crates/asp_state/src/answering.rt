@@ -51,3 +51,35 @@ fn answer<T: Sink, K: Keeper>(
     let head = server.stream.answer(&reply);
     write_text(sink, head.as_slice(), reply_body(&reply))
 }
+
+/// Answers each whole message that is held.
+pub fn answer_held<T: Sink, K: Keeper>(server: &mut Server<K>, sink: &mut T) -> Stop
+    requires whole { IsFalse server.old.stream.reader.is_broken }
+    requires cookies { CookiesFit server.old.cookies }
+    ensures goes { result ≡ Stop.More → GoesOn K.can_count (T.taken sink.old) (T.taken sink.new)
+        (state_of server.old (K.told server.old.shard) (K.count server.old.shard)) (state_of server.new (K.told server.new.shard) (K.count server.new.shard)) }
+    ensures waits { result ≡ Stop.More → IsFalse server.new.stream.reader.is_broken × IsTrue server.new.stream.reader.may_feed
+        × HasNoMessage SpellsRequest server.new.stream.reader.held }
+    ensures broken { result ≡ Stop.Broken → (rest : List ℕ) × IsHopeless SpellsRequest rest × GoesOn K.can_count (T.taken sink.old) (T.taken sink.new)
+        (state_of server.old (K.told server.old.shard) (K.count server.old.shard)) (record (state_of server.new (K.told server.new.shard) (K.count server.new.shard)) { held = rest }) }
+    ensures no_memory { result ≡ Stop.NoMemory → GoesOn K.can_count (T.taken sink.old) (T.taken sink.new)
+        (state_of server.old (K.told server.old.shard) (K.count server.old.shard)) (state_of server.new (K.told server.new.shard) (K.count server.new.shard)) }
+    ensures in_part { result ≡ Stop.WriteFault → GoesInPart K.can_count (T.taken sink.old) (T.taken sink.new)
+        (state_of server.old (K.told server.old.shard) (K.count server.old.shard)) (state_of server.new (K.told server.new.shard) (K.count server.new.shard)) }
+    ensures fault { result ≡ Stop.WriteFault → Rose (T.faults sink.old) (T.faults sink.new) }
+    ensures faults { T.faults sink.old ≤ T.faults sink.new }
+    ensures cookies { CookiesFit server.new.cookies }
+    ensures floor { K.floor server.new.shard ≡ K.floor server.old.shard }
+{
+    loop {
+        match server.stream.next() {
+            Next::Message(message) => match answer(server, message, sink) {
+                Ok(()) => {}
+                Err(Failed) => return Stop::WriteFault,
+            },
+            Next::More => return Stop::More,
+            Next::Broken => return Stop::Broken,
+            Next::NoMemory => return Stop::NoMemory,
+        }
+    }
+}
