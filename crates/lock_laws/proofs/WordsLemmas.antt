@@ -28,7 +28,7 @@ last_of (e ∷ es) = elim (last_of es) [
 pub on : (list before behind : List Entry) (e : Entry) → list ≡ before ++ e ∷ behind → list ≡ (before ++ e ∷ []) ++ behind
 on list before behind e place = place ∙ sym (append_assoc before (e ∷ []) behind)
 
-last_grant-push : (opening : List ℕ → Option Item) (key : List ℕ) (es : List Entry) (e : Entry)
+pub last_grant-push : (opening : List ℕ → Option Item) (key : List ℕ) (es : List Entry) (e : Entry)
     → last_grant opening key (es ++ e ∷ []) ≡ cond (is_deed_of key e.deed) (granted e.reply) None
 last_grant-push opening key [] e = refl
 last_grant-push opening key (f ∷ []) e = refl
