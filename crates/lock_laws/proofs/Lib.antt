@@ -1,3 +1,4 @@
 pub mod EntryLemmas
 pub mod WordsLemmas
 pub mod LegalLemmas
+pub mod LawLemmas

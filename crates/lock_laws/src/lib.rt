@@ -1,13 +1,8 @@
-//! What locks give in every legal history. The functions do nothing; what they ensure holds of all
-//! histories.
+//! What locks give in every legal history.
 #![tactic(auto)]
-ghost use Rattle.std.specs.Prelude.{ℕ, List, Option};
-ghost use Rattle.session_machine.specs.declared.entry.Entry.{Entry};
-ghost use Rattle.session_machine.specs.declared.item.Item.{Item};
-ghost use Rattle.session_machine.specs.History.{IsLegal};
-ghost use Rattle.lock_laws.specs.Laws.{LocksHold};
 
-/// What locks give, in every legal history from any items.
-pub fn locks_hold()
-    ensures { (opening : List ℕ → Option Item) (count : ℕ) (list : List Entry) → IsLegal opening count list → LocksHold opening count list }
-{}
+mod laws;
+
+pub use laws::{
+    acts_only_in_force, in_force_is_done, locks_hold, no_update_is_lost, nobody_else,
+};
