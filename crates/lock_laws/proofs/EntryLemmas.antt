@@ -1,8 +1,7 @@
 -- What one entry of a key does to the lock on its item: who has it, until when, and with what content.
-use Rattle.std.proofs.Common.{◌≡◌, ℕ, ◌+◌, ◌*◌, ◌≤◌, ◌<◌, ◌^◌, max, Bool, true, false, cond, not, ◌&&◌, ◌||◌, List, [], ◌∷◌, ◌++◌, Some, None, Option, refl, sym, ap, ◌∙◌, arith, subst, inl, inr}
-use Rattle.std.specs.Prelude.{◌⊎◌, ◌≢◌, ◌==◌, IsTrue, IsFalse}
+use Rattle.std.proofs.Common.{◌≡◌, ℕ, ◌+◌, ◌*◌, ◌≤◌, ◌<◌, Bool, true, false, cond, ◌&&◌, List, Some, None, Option, refl, sym, ap, ◌∙◌, arith, subst, inl, inr}
+use Rattle.std.specs.Prelude.{◌⊎◌, ◌==◌}
 use Rattle.std.proofs.lemmas.Bool.Decides.{nat_tests}
-use Rattle.asp_messages.specs.declared.request.Request.{Request}
 use Rattle.asp_messages.specs.declared.request.Ask.{Ask}
 use Rattle.asp_messages.specs.declared.request.Ask.TheVariants.{Read, Acquire, Release, Write, Remove, Reset}
 use Rattle.asp_messages.specs.declared.reply.Reply.{Reply}
@@ -12,37 +11,33 @@ use Rattle.session_machine.specs.declared.entry.Deed.{Deed}
 use Rattle.session_machine.specs.declared.entry.Deed.TheVariants.{Asked, Expired, Looked}
 use Rattle.session_machine.specs.declared.item.Item.{Item}
 use Rattle.session_machine.specs.declared.item.Hold.{Hold}
-use Rattle.session_machine.specs.Liveness.{seen, is_live, age, expiry}
-use Rattle.session_machine.specs.Machine.{Effect, on_absent, on_free, on_held, on_there, on_seen, effect, Step, touch, made}
-use Rattle.session_machine.specs.History.{after_reply, after_deed, IsDead, DeedStands, is_deed_of}
-use Rattle.lock_laws.specs.InForce.{Grant, granted, grant_under, locked, touched_of, touched_by, runs_out, ends, prolongs, is_given_up, is_refused, gives_up}
+use Rattle.session_machine.specs.Liveness.{seen, is_live}
+use Rattle.session_machine.specs.Machine.{Effect, on_absent, on_free, on_held, on_there, on_seen, effect, Step}
+use Rattle.session_machine.specs.History.{after_reply, after_deed, DeedStands, is_deed_of}
+use Rattle.lock_laws.specs.InForce.{Grant, granted, grant_under, grant_of, touched_of, touched_by, runs_out, ends, prolongs, is_given_up, is_refused}
 use Rattle.lock_laws.specs.Laws.{named_by, named_in, is_asked, is_change, IsAnsweredUnderLock}
-
--- the moment from which on the item's lock, so granted, is out of force
-abbrev out_of : Grant → Option Item → ℕ
-out_of grant old = runs_out grant (touched_of old)
 
 -- What the entry does to the lock, said of the item before and after it.
 pub record OneEntry (old : Option Item) (e : Entry) (new : Option Item) : Type 0 where
   -- a lock that is there and is not ended stays, with its content, and is prolonged as the words say
-  pub keeps : (grant : Grant) → locked old ≡ Some grant → ends grant.cookie (runs_out grant (touched_of old)) e ≡ false
-      → (locked new ≡ Some grant) × (touched_of new ≡ touched_by (touched_of old) e)
+  pub keeps : (grant : Grant) → grant_of old ≡ Some grant → ends grant.cookie (runs_out grant (touched_of old)) e ≡ false
+      → (grant_of new ≡ Some grant) × (touched_of new ≡ touched_by (touched_of old) e)
   -- a lock that is there afterwards was granted by the entry, or was there and is not ended
-  pub comes : (grant : Grant) → locked new ≡ Some grant
-      → (granted e.reply ≡ Some grant) ⊎ ((locked old ≡ Some grant) × (ends grant.cookie (runs_out grant (touched_of old)) e ≡ false))
+  pub comes : (grant : Grant) → grant_of new ≡ Some grant
+      → (granted e.reply ≡ Some grant) ⊎ ((grant_of old ≡ Some grant) × (ends grant.cookie (runs_out grant (touched_of old)) e ≡ false))
   -- what is granted is there afterwards, under the cookie that was drawn
-  pub gives : (grant : Grant) → granted e.reply ≡ Some grant → (locked new ≡ Some grant) × (e.drawn ≡ grant.cookie) × (0 < e.drawn)
+  pub gives : (grant : Grant) → granted e.reply ≡ Some grant → (grant_of new ≡ Some grant) × (e.drawn ≡ grant.cookie) × (0 < e.drawn)
   -- nothing is granted where a lock is there
-  pub refuses : (grant : Grant) → locked old ≡ Some grant → granted e.reply ≡ None
+  pub refuses : (grant : Grant) → grant_of old ≡ Some grant → granted e.reply ≡ None
   -- a named cookie acts only where its lock is there and has not run out
   pub stale : (cookie : ℕ) → named_by e.deed ≡ Some cookie
       → (seen new e.moment ≡ seen old e.moment)
-      ⊎ ((grant : Grant) × (locked old ≡ Some grant) × (grant.cookie ≡ cookie) × (e.moment < runs_out grant (touched_of old)))
+      ⊎ ((grant : Grant) × (grant_of old ≡ Some grant) × (grant.cookie ≡ cookie) × (e.moment < runs_out grant (touched_of old)))
   -- and there it is answered
-  pub answers : (grant : Grant) → locked old ≡ Some grant → e.moment < runs_out grant (touched_of old) → named_by e.deed ≡ Some grant.cookie
+  pub answers : (grant : Grant) → grant_of old ≡ Some grant → e.moment < runs_out grant (touched_of old) → named_by e.deed ≡ Some grant.cookie
       → IsAnsweredUnderLock e.reply
   -- where a lock is there, a change that acts ends it, and names its cookie unless it has run out
-  pub others : (grant : Grant) → locked old ≡ Some grant → is_asked is_change e.deed ≡ true
+  pub others : (grant : Grant) → grant_of old ≡ Some grant → is_asked is_change e.deed ≡ true
       → (seen new e.moment ≡ seen old e.moment)
       ⊎ ((ends grant.cookie (runs_out grant (touched_of old)) e ≡ true) × (e.moment < runs_out grant (touched_of old) → named_by e.deed ≡ Some grant.cookie))
 
@@ -81,7 +76,7 @@ granted-minutes None item grant g = absurd (cc g)
 granted-minutes (Some hold) item grant g = grind arith
 
 -- an item that is not seen has run out
-dead : (old : Option Item) (t : ℕ) (grant : Grant) → seen old t ≡ None → locked old ≡ Some grant → runs_out grant (touched_of old) ≤ t
+dead : (old : Option Item) (t : ℕ) (grant : Grant) → seen old t ≡ None → grant_of old ≡ Some grant → runs_out grant (touched_of old) ≤ t
 dead None t grant h g = absurd (cc g)
 dead (Some item) t grant h g = by_life (is_live item t) refl h
   where
@@ -159,8 +154,8 @@ absent-does old e key Reset h = record {
 -- what a request does under a lock, said of the lock's own grant
 pub record UnderLock (item : Item) (hold : Hold) (e : Entry) (key : List ℕ) (ask : Ask) (x : Effect) : Type 0 where
   pub keeps : ends hold.cookie (item.touched + item.minutes * 60000) (asked e key ask x.0) ≡ false
-      → (locked x.1 ≡ Some (record { cookie = hold.cookie; body = item.body; minutes = item.minutes })) × (touched_of x.1 ≡ touched_by item.touched (asked e key ask x.0))
-  pub comes : (grant : Grant) → locked x.1 ≡ Some grant → (Some (record { cookie = hold.cookie; body = item.body; minutes = item.minutes }) ≡ Some grant)
+      → (grant_of x.1 ≡ Some (record { cookie = hold.cookie; body = item.body; minutes = item.minutes })) × (touched_of x.1 ≡ touched_by item.touched (asked e key ask x.0))
+  pub comes : (grant : Grant) → grant_of x.1 ≡ Some grant → (Some (record { cookie = hold.cookie; body = item.body; minutes = item.minutes }) ≡ Some grant)
       × (ends hold.cookie (item.touched + item.minutes * 60000) (asked e key ask x.0) ≡ false)
   pub refuses : granted x.0 ≡ None
   pub stale : (cookie : ℕ) → named_in ask ≡ Some cookie → (seen x.1 e.moment ≡ Some (record item { holder = Some hold })) ⊎ (hold.cookie ≡ cookie)
@@ -259,7 +254,7 @@ own item hold = record { cookie = hold.cookie; body = item.body; minutes = item.
 lift : (item : Item) (hold : Hold) (e : Entry) (key : List ℕ) (ask : Ask) (x : Effect) → is_live item e.moment ≡ true → UnderLock item hold e key ask x
     → Does (Some (record item { holder = Some hold })) e key ask x
 lift item hold e key ask x live under = record {
-  keeps = λ grant g. of (λ gr. ends gr.cookie (runs_out gr item.touched) (asked e key ask x.0) ≡ false → (locked x.1 ≡ Some gr) × (touched_of x.1 ≡ touched_by item.touched (asked e key ask x.0))) grant g under.keeps;
+  keeps = λ grant g. of (λ gr. ends gr.cookie (runs_out gr item.touched) (asked e key ask x.0) ≡ false → (grant_of x.1 ≡ Some gr) × (touched_of x.1 ≡ touched_by item.touched (asked e key ask x.0))) grant g under.keeps;
   comes = λ grant g. let c = under.comes grant g in inr (c.0, of (λ gr. ends gr.cookie (runs_out gr item.touched) (asked e key ask x.0) ≡ false) grant c.0 c.1);
   gives = λ grant g. absurd (cc (under.refuses, g));
   refuses = λ grant g. under.refuses;
@@ -267,13 +262,14 @@ lift item hold e key ask x live under = record {
   answers = λ grant g l. of (λ gr. named_in ask ≡ Some gr.cookie → IsAnsweredUnderLock x.0) grant g under.answers;
   others = λ grant g c. of
       (λ gr.
-          (seen x.1 e.moment ≡ seen (Some (record item { holder = Some hold })) e.moment)
-          ⊎ ((ends gr.cookie (runs_out gr item.touched) (asked e key ask x.0) ≡ true) × (e.moment < runs_out gr item.touched → named_in ask ≡ Some gr.cookie))) grant g
+      (seen x.1 e.moment ≡ seen (Some (record item { holder = Some hold })) e.moment)
+      ⊎ ((ends gr.cookie (runs_out gr item.touched) (asked e key ask x.0) ≡ true) × (e.moment < runs_out gr item.touched → named_in ask ≡ Some gr.cookie))) grant g
       (elim (under.others c) [ inl same ↦ inl (same ∙ sym alive) | inr is ↦ inr (is.1, λ _. is.0) ]);
 }
   where
     of : (P : Grant → Type 0) (grant : Grant) → Some (own item hold) ≡ Some grant → P (own item hold) → P grant
     of P grant g p = let same : own item hold ≡ grant = cc in subst P same p
+
     alive : seen (Some (record item { holder = Some hold })) e.moment ≡ Some (record item { holder = Some hold })
     alive = ap (λ b. cond b (Some (record item { holder = Some hold })) None) live
 
@@ -382,6 +378,7 @@ does-seen (Some item) e key ask draw = by_life (is_live item e.moment) refl
         → Does (Some (record item { holder = holder })) e key ask (on_there (record item { holder = holder }) holder e.moment e.drawn ask)
     there None live = free-does item e key ask live draw
     there (Some hold) live = lift item hold e key ask _ live (held-does item hold e key ask live)
+
     by_life : (b : Bool) → is_live item e.moment ≡ b → Does (Some item) e key ask (on_seen (cond b (Some item) None) e.moment e.drawn ask)
     by_life true live = there item.holder live
     by_life false live = absent-does (Some item) e key ask (ap (λ b. cond b (Some item) None) live)

@@ -1,13 +1,13 @@
 -- A legal history is a run of each key's item, and grants each cookie once.
-use Rattle.std.proofs.Common.{◌≡◌, ℕ, ◌+◌, ◌≤◌, ◌<◌, max, Bool, true, false, cond, List, [], ◌∷◌, ◌++◌, Some, None, Option, refl, sym, ap, ◌∙◌, arith, subst, inl, inr, append_assoc}
-use Rattle.std.specs.Prelude.{◌⊎◌, IfSome}
+use Rattle.std.proofs.Common.{◌≡◌, ℕ, ◌<◌, max, Bool, true, false, cond, List, [], ◌∷◌, ◌++◌, Some, None, Option, refl, sym, ap, ◌∙◌, arith, subst, inl, inr, append_assoc}
+use Rattle.std.specs.Prelude.{IfSome}
 use Rattle.std.specs.List.{AllByRecursion}
 use Rattle.session_machine.specs.declared.entry.Entry.{Entry}
 use Rattle.session_machine.specs.declared.item.Item.{Item}
 use Rattle.session_machine.specs.declared.item.Hold.{Hold}
-use Rattle.session_machine.specs.History.{Marked, has_risen, marked, is_deed_of, entries_of, after_entry, after_deed, after_entries, DeedStands, Lead, DrawsRise, IsHeldBelow, IsLegal, item_after, count_after}
+use Rattle.session_machine.specs.History.{Marked, has_risen, marked, is_deed_of, entries_of, after_entry, after_entries, DeedStands, Lead, DrawsRise, IsHeldBelow, IsLegal, item_after, count_after}
 use Rattle.session_machine.proofs.HistoryLemmas.{item_after-same, item_after-other}
-use Rattle.lock_laws.specs.InForce.{Grant, granted, grant_under, locked, last_grant, IsGranted}
+use Rattle.lock_laws.specs.InForce.{Grant, granted, grant_under, grant_of, last_grant, IsGranted}
 use Rattle.lock_laws.proofs.EntryLemmas.{OneEntry, one_entry}
 use Rattle.lock_laws.proofs.WordsLemmas.{IsRun, last_of, last_grant-push}
 
@@ -41,9 +41,9 @@ deed-stands : (opening : List ℕ → Option Item) (count : ℕ) (list : List En
 deed-stands opening count list key before behind e legal place same =
     let m : Marked = (rose_at count before e, e) in
     let parts : entries_of key (marked count list) ≡ entries_of key (marked count before) ++ m ∷ entries_of key (marked e.faults behind) =
-        ap (λ es. entries_of key (marked count es)) place ∙ ap (entries_of key) (marked-append count before (e ∷ behind))
-        ∙ entries_of-append key (marked count before) (marked (count_after count before) (e ∷ behind))
-        ∙ ap (λ b. entries_of key (marked count before) ++ cond b (m ∷ entries_of key (marked e.faults behind)) (entries_of key (marked e.faults behind))) same in
+    ap (λ es. entries_of key (marked count es)) place ∙ ap (entries_of key) (marked-append count before (e ∷ behind))
+    ∙ entries_of-append key (marked count before) (marked (count_after count before) (e ∷ behind))
+    ∙ ap (λ b. entries_of key (marked count before) ++ cond b (m ∷ entries_of key (marked e.faults behind)) (entries_of key (marked e.faults behind))) same in
     (Lead-behind (opening key) (entries_of key (marked count before)) (m ∷ entries_of key (marked e.faults behind)) (subst (Lead (opening key)) parts (legal.keys key))).0
 
 -- the rows of a key in a legal history
@@ -85,7 +85,7 @@ All-at P [] ys x all = all.0
 All-at P (y ∷ xs) ys x all = All-at P xs ys x all.1
 
 -- an item that stands for a grant is held under its cookie
-held-cookie : (above : ℕ) (old : Option Item) (grant : Grant) → locked old ≡ Some grant → IsHeldBelow above old → grant.cookie < above
+held-cookie : (above : ℕ) (old : Option Item) (grant : Grant) → grant_of old ≡ Some grant → IsHeldBelow above old → grant.cookie < above
 held-cookie above None grant is below = absurd (cc is)
 held-cookie above (Some item) grant is below = under item.holder is below
   where
@@ -95,14 +95,14 @@ held-cookie above (Some item) grant is below = under item.holder is below
 
 -- how a grant came about
 data Source (opening : List ℕ → Option Item) (key : List ℕ) (list until : List Entry) (grant : Grant) : Type 0 where
-  at_first : until ≡ [] → locked (opening key) ≡ Some grant → Source opening key list until grant
+  at_first : until ≡ [] → grant_of (opening key) ≡ Some grant → Source opening key list until grant
   at_entry : (xs ys : List Entry) (e : Entry) → until ≡ xs ++ e ∷ [] → list ≡ xs ++ e ∷ ys → granted e.reply ≡ Some grant → e.drawn ≡ grant.cookie → 0 < e.drawn
       → Source opening key list until grant
 
 source : (opening : List ℕ → Option Item) (count : ℕ) (list : List Entry) (key : List ℕ) (until behind : List Entry) (grant : Grant) → IsLegal opening count list
     → list ≡ until ++ behind → last_grant opening key until ≡ Some grant → Source opening key list until grant
 source opening count list key until behind grant legal place is = elim (last_of until) [
-  inl none ↦ at_first none (sym (ap (last_grant opening key) none) ∙ is)
+  | inl none ↦ at_first none (sym (ap (last_grant opening key) none) ∙ is)
   | inr more ↦ by_entry more.0 more.1 more.2
 ]
   where
@@ -111,8 +111,10 @@ source opening count list key until behind grant legal place is = elim (last_of 
       where
         ended : cond (is_deed_of key e.deed) (granted e.reply) None ≡ Some grant
         ended = sym (last_grant-push opening key xs e) ∙ sym (ap (last_grant opening key) so) ∙ is
+
         at : list ≡ xs ++ e ∷ behind
         at = place ∙ ap (λ es. es ++ behind) so ∙ append_assoc xs (e ∷ []) behind
+
         by_key : (b : Bool) → is_deed_of key e.deed ≡ b → Source opening key list until grant
         by_key true same =
             let given : granted e.reply ≡ Some grant = sym (ap (λ b. cond b (granted e.reply) None) same) ∙ ended in
@@ -121,24 +123,22 @@ source opening count list key until behind grant legal place is = elim (last_of 
         by_key false other =
             let nothing : None ≡ Some grant = sym (ap (λ b. cond b (granted e.reply) None) other) ∙ ended in absurd (cc nothing)
 
+-- no item is held at the beginning under a cookie that is drawn
+drawn-fresh : (opening : List ℕ → Option Item) (count : ℕ) (list : List Entry) (key : List ℕ) (xs ys : List Entry) (e : Entry) (grant : Grant) → IsLegal opening count list
+    → list ≡ xs ++ e ∷ ys → 0 < e.drawn → grant_of (opening key) ≡ Some grant → grant.cookie < e.drawn
+drawn-fresh opening count list key xs ys e grant legal place some is =
+    held-cookie e.drawn (opening key) grant is
+    (All-at (λ f. 0 < f.drawn → (k : List ℕ) → IsHeldBelow f.drawn (opening k)) xs ys e
+    (subst (AllByRecursion (λ f. 0 < f.drawn → (k : List ℕ) → IsHeldBelow f.drawn (opening k))) place legal.fresh_draws) some key)
+
 -- two grants of one cookie are one
 one-source : (opening : List ℕ → Option Item) (count : ℕ) (list : List Entry) (key : List ℕ) (until other : List Entry) (grant granted_too : Grant) → IsLegal opening count list
     → grant.cookie ≡ granted_too.cookie → Source opening key list until grant → Source opening key list other granted_too → (until ≡ other) × (grant ≡ granted_too)
 one-source opening count list key until other grant too legal same (at_first none is) (at_first nothing be) = (none ∙ sym nothing, cc)
 one-source opening count list key until other grant too legal same (at_first none is) (at_entry xs ys e so place given drawn some) =
-    absurd (let below : grant.cookie < e.drawn = held-cookie e.drawn (opening key) grant is (fresh xs ys e place some) in omega arith)
-  where
-    fresh : (xs ys : List Entry) (e : Entry) → list ≡ xs ++ e ∷ ys → 0 < e.drawn → IsHeldBelow e.drawn (opening key)
-    fresh xs ys e place some =
-        All-at (λ f. 0 < f.drawn → (k : List ℕ) → IsHeldBelow f.drawn (opening k)) xs ys e
-        (subst (AllByRecursion (λ f. 0 < f.drawn → (k : List ℕ) → IsHeldBelow f.drawn (opening k))) place legal.fresh_draws) some key
+    absurd (let below : grant.cookie < e.drawn = drawn-fresh opening count list key xs ys e grant legal place some is in omega arith)
 one-source opening count list key until other grant too legal same (at_entry xs ys e so place given drawn some) (at_first none is) =
-    absurd (let below : too.cookie < e.drawn = held-cookie e.drawn (opening key) too is (fresh xs ys e place some) in omega arith)
-  where
-    fresh : (xs ys : List Entry) (e : Entry) → list ≡ xs ++ e ∷ ys → 0 < e.drawn → IsHeldBelow e.drawn (opening key)
-    fresh xs ys e place some =
-        All-at (λ f. 0 < f.drawn → (k : List ℕ) → IsHeldBelow f.drawn (opening k)) xs ys e
-        (subst (AllByRecursion (λ f. 0 < f.drawn → (k : List ℕ) → IsHeldBelow f.drawn (opening k))) place legal.fresh_draws) some key
+    absurd (let below : too.cookie < e.drawn = drawn-fresh opening count list key xs ys e too legal place some is in omega arith)
 one-source opening count list key until other grant too legal same (at_entry xs ys e so place given drawn some) (at_entry us vs f be there gave drew more) =
     let one : (xs ≡ us) × (e ≡ f) = one-draw 0 xs us ys vs e f (subst (DrawsRise 0) place legal.draws) (sym place ∙ there) some (drawn ∙ same ∙ sym drew) in
     let xs_same : xs ≡ us = one.0 in

@@ -2,3 +2,4 @@ pub mod EntryLemmas
 pub mod WordsLemmas
 pub mod LegalLemmas
 pub mod LawLemmas
+pub mod Examples

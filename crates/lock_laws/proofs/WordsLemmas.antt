@@ -1,11 +1,11 @@
 -- The words of a history and the rows of its key say the same of the lock: which grant is in force, and how long it lasts.
-use Rattle.std.proofs.Common.{◌≡◌, ℕ, ◌+◌, ◌*◌, ◌≤◌, ◌<◌, max, Bool, true, false, cond, List, [], ◌∷◌, ◌++◌, Some, None, Option, refl, sym, ap, ◌∙◌, arith, subst, inl, inr, append_assoc, append-nil}
-use Rattle.std.specs.Prelude.{◌⊎◌, IsFalse}
+use Rattle.std.proofs.Common.{◌≡◌, ℕ, Bool, true, false, cond, List, [], ◌∷◌, ◌++◌, Some, None, Option, refl, sym, ap, ◌∙◌, subst, inl, inr, append_assoc, append-nil}
+use Rattle.std.specs.Prelude.{◌⊎◌}
 use Rattle.std.proofs.lemmas.List.Elements.{filter-append}
 use Rattle.session_machine.specs.declared.entry.Entry.{Entry}
 use Rattle.session_machine.specs.declared.item.Item.{Item}
 use Rattle.session_machine.specs.History.{is_deed_of}
-use Rattle.lock_laws.specs.InForce.{Grant, granted, locked, last_grant, IsGranted, on_key, touched_of, touched_by, last_touch, runs_out, ends, Lasts}
+use Rattle.lock_laws.specs.InForce.{Grant, granted, grant_of, last_grant, IsGranted, on_key, touched_of, touched_by, last_touch, runs_out, ends, Lasts}
 use Rattle.lock_laws.proofs.EntryLemmas.{OneEntry}
 
 -- The rows of a key along a list: row has its item after each first part of the list.
@@ -20,7 +20,7 @@ pub record IsRun (row : List Entry → Option Item) (opening : List ℕ → Opti
 pub last_of : (es : List Entry) → (es ≡ []) ⊎ ((xs : List Entry) × (e : Entry) × (es ≡ xs ++ e ∷ []))
 last_of [] = inl refl
 last_of (e ∷ es) = elim (last_of es) [
-  inl none ↦ inr ([], e, ap (λ ys. e ∷ ys) none)
+  | inl none ↦ inr ([], e, ap (λ ys. e ∷ ys) none)
   | inr more ↦ inr (e ∷ more.0, more.1, ap (λ ys. e ∷ ys) more.2)
 ]
 
@@ -56,35 +56,38 @@ Lasts-split grant touched (x ∷ xs) ys p = let q = Lasts-split grant (touched_b
 
 -- what was granted stands in the row
 pub granted-locked : (row : List Entry → Option Item) (opening : List ℕ → Option Item) (key : List ℕ) (list until behind : List Entry) (grant : Grant) → IsRun row opening key list
-    → list ≡ until ++ behind → last_grant opening key until ≡ Some grant → locked (row until) ≡ Some grant
+    → list ≡ until ++ behind → last_grant opening key until ≡ Some grant → grant_of (row until) ≡ Some grant
 granted-locked row opening key list until behind grant run place is = elim (last_of until) [
-  inl none ↦ at_first none
+  | inl none ↦ at_first none
   | inr more ↦ at_last more.0 more.1 more.2
 ]
   where
-    at_first : until ≡ [] → locked (row until) ≡ Some grant
-    at_first none = ap (λ es. locked (row es)) none ∙ ap locked run.first ∙ sym (ap (last_grant opening key) none) ∙ is
-    at_last : (xs : List Entry) (e : Entry) → until ≡ xs ++ e ∷ [] → locked (row until) ≡ Some grant
+    at_first : until ≡ [] → grant_of (row until) ≡ Some grant
+    at_first none = ap (λ es. grant_of (row es)) none ∙ ap grant_of run.first ∙ sym (ap (last_grant opening key) none) ∙ is
+
+    at_last : (xs : List Entry) (e : Entry) → until ≡ xs ++ e ∷ [] → grant_of (row until) ≡ Some grant
     at_last xs e so = by_key (is_deed_of key e.deed) refl
       where
         ended : cond (is_deed_of key e.deed) (granted e.reply) None ≡ Some grant
         ended = sym (last_grant-push opening key xs e) ∙ sym (ap (last_grant opening key) so) ∙ is
+
         at : list ≡ xs ++ e ∷ behind
         at = place ∙ ap (λ es. es ++ behind) so ∙ append_assoc xs (e ∷ []) behind
-        by_key : (b : Bool) → is_deed_of key e.deed ≡ b → locked (row until) ≡ Some grant
+
+        by_key : (b : Bool) → is_deed_of key e.deed ≡ b → grant_of (row until) ≡ Some grant
         by_key true same =
             let given : granted e.reply ≡ Some grant = sym (ap (λ b. cond b (granted e.reply) None) same) ∙ ended in
-            ap (λ es. locked (row es)) so ∙ ((run.same xs behind e at same).gives grant given).0
+            ap (λ es. grant_of (row es)) so ∙ ((run.same xs behind e at same).gives grant given).0
         by_key false other =
             let nothing : None ≡ Some grant = sym (ap (λ b. cond b (granted e.reply) None) other) ∙ ended in absurd (cc nothing)
 
 -- the row has the lock of the grant, and was last touched then
 abbrev pub Stands : Option Item → Grant → ℕ → Type 0
-Stands old grant touched = (locked old ≡ Some grant) × (touched_of old ≡ touched)
+Stands old grant touched = (grant_of old ≡ Some grant) × (touched_of old ≡ touched)
 
 -- a grant that lasts stands in the row, as long as the words say
 pub lasts-stands : (row : List Entry → Option Item) (opening : List ℕ → Option Item) (key : List ℕ) (list since until behind : List Entry) (grant : Grant) → IsRun row opening key list
-    → list ≡ until ++ (since ++ behind) → locked (row until) ≡ Some grant → Lasts grant (touched_of (row until)) (on_key key since)
+    → list ≡ until ++ (since ++ behind) → grant_of (row until) ≡ Some grant → Lasts grant (touched_of (row until)) (on_key key since)
     → Stands (row (until ++ since)) grant (last_touch (touched_of (row until)) (on_key key since))
 lasts-stands row opening key list [] until behind grant run place there lasts =
     subst (λ es. Stands (row es) grant (touched_of (row until))) (sym (append-nil until)) (there, refl)
@@ -95,8 +98,9 @@ lasts-stands row opening key list (e ∷ es) until behind grant run place there 
     passed : Stands (row ((until ++ e ∷ []) ++ es)) grant (last_touch (touched_of (row (until ++ e ∷ []))) (on_key key es))
         → Stands (row (until ++ e ∷ es)) grant (last_touch (touched_of (row (until ++ e ∷ []))) (on_key key es))
     passed = subst (λ fs. Stands (row fs) grant (last_touch (touched_of (row (until ++ e ∷ []))) (on_key key es))) (append_assoc until (e ∷ []) es)
-    by_key : (locked (row (until ++ e ∷ [])) ≡ Some grant → Lasts grant (touched_of (row (until ++ e ∷ []))) (on_key key es)
-          → Stands (row ((until ++ e ∷ []) ++ es)) grant (last_touch (touched_of (row (until ++ e ∷ []))) (on_key key es)))
+
+    by_key : (grant_of (row (until ++ e ∷ [])) ≡ Some grant → Lasts grant (touched_of (row (until ++ e ∷ []))) (on_key key es)
+        → Stands (row ((until ++ e ∷ []) ++ es)) grant (last_touch (touched_of (row (until ++ e ∷ []))) (on_key key es)))
         → (b : Bool) → is_deed_of key e.deed ≡ b → Stands (row (until ++ e ∷ es)) grant (last_touch (touched_of (row until)) (on_key key (e ∷ es)))
     by_key next true same =
         let all : Lasts grant (touched_of (row until)) (e ∷ on_key key es) = subst (Lasts grant (touched_of (row until))) (on_key-same key e es same) lasts in
@@ -106,7 +110,7 @@ lasts-stands row opening key list (e ∷ es) until behind grant run place there 
     by_key next false other =
         let stays : row (until ++ e ∷ []) ≡ row until = run.other until (es ++ behind) e place other in
         let rest : Lasts grant (touched_of (row until)) (on_key key es) = subst (Lasts grant (touched_of (row until))) (on_key-other key e es other) lasts in
-        let here = passed (next (ap locked stays ∙ there) (subst (λ o. Lasts grant (touched_of o) (on_key key es)) (sym stays) rest)) in
+        let here = passed (next (ap grant_of stays ∙ there) (subst (λ o. Lasts grant (touched_of o) (on_key key es)) (sym stays) rest)) in
         (here.0, here.1 ∙ ap (λ o. last_touch (touched_of o) (on_key key es)) stays ∙ sym (ap (last_touch (touched_of (row until))) (on_key-other key e es other)))
 
 -- ---- from the row to the words
@@ -121,13 +125,13 @@ pub record IsHeld (row : List Entry → Option Item) (opening : List ℕ → Opt
 
 -- each lock in the row has such words
 abbrev pub EachIsHeld : (List Entry → Option Item) → (List ℕ → Option Item) → List ℕ → List Entry → Type 0
-EachIsHeld row opening key before = (grant : Grant) → locked (row before) ≡ Some grant → IsHeld row opening key before grant
+EachIsHeld row opening key before = (grant : Grant) → grant_of (row before) ≡ Some grant → IsHeld row opening key before grant
 
 held-first : (row : List Entry → Option Item) (opening : List ℕ → Option Item) (key : List ℕ) (list : List Entry) → IsRun row opening key list → EachIsHeld row opening key []
 held-first row opening key list run grant is = record {
   until = [];
   since = [];
-  place = record { parts = refl; granted = sym (ap locked run.first) ∙ is };
+  place = record { parts = refl; granted = sym (ap grant_of run.first) ∙ is };
   lasts = tt;
   last = refl;
 }
@@ -153,6 +157,7 @@ held-next row opening key list before behind e run place each grant is = by_key 
       where
         step : OneEntry (row before) e (row (before ++ e ∷ []))
         step = run.same before behind e place same
+
         by_grant : granted e.reply ≡ Some grant → IsHeld row opening key (before ++ e ∷ []) grant
         by_grant given = record {
           until = before ++ e ∷ [];
@@ -164,11 +169,12 @@ held-next row opening key list before behind e run place each grant is = by_key 
           lasts = tt;
           last = refl;
         }
-        by_staying : locked (row before) ≡ Some grant → ends grant.cookie (runs_out grant (touched_of (row before))) e ≡ false → IsHeld row opening key (before ++ e ∷ []) grant
+
+        by_staying : grant_of (row before) ≡ Some grant → ends grant.cookie (runs_out grant (touched_of (row before))) e ≡ false → IsHeld row opening key (before ++ e ∷ []) grant
         by_staying there stays =
             let held : IsHeld row opening key before grant = each grant there in
             let pushed : on_key key (held.since ++ e ∷ []) ≡ on_key key held.since ++ e ∷ [] =
-                filter-append (λ f. is_deed_of key f.deed) held.since (e ∷ []) ∙ ap (λ es. on_key key held.since ++ es) (on_key-same key e [] same) in
+            filter-append (λ f. is_deed_of key f.deed) held.since (e ∷ []) ∙ ap (λ es. on_key key held.since ++ es) (on_key-same key e [] same) in
             let kept : Stands (row (before ++ e ∷ [])) grant (touched_by (touched_of (row before)) e) = step.keeps grant there stays in
             held-on row opening key before e grant held
             (subst (Lasts grant (touched_of (row held.until))) (sym pushed)
@@ -178,9 +184,9 @@ held-next row opening key list before behind e run place each grant is = by_key 
             ∙ sym (ap (last_touch (touched_of (row held.until))) pushed))
     by_key false other =
         let stays : row (before ++ e ∷ []) ≡ row before = run.other before behind e place other in
-        let held : IsHeld row opening key before grant = each grant (sym (ap locked stays) ∙ is) in
+        let held : IsHeld row opening key before grant = each grant (sym (ap grant_of stays) ∙ is) in
         let pushed : on_key key (held.since ++ e ∷ []) ≡ on_key key held.since =
-            filter-append (λ f. is_deed_of key f.deed) held.since (e ∷ []) ∙ ap (λ es. on_key key held.since ++ es) (on_key-other key e [] other) ∙ append-nil (on_key key held.since) in
+        filter-append (λ f. is_deed_of key f.deed) held.since (e ∷ []) ∙ ap (λ es. on_key key held.since ++ es) (on_key-other key e [] other) ∙ append-nil (on_key key held.since) in
         held-on row opening key before e grant held
         (subst (Lasts grant (touched_of (row held.until))) (sym pushed) held.lasts)
         (ap touched_of stays ∙ held.last ∙ sym (ap (last_touch (touched_of (row held.until))) pushed))

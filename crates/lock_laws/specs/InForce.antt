@@ -29,19 +29,19 @@ abbrev pub granted : Reply → Option Grant
 granted (Found body minutes (Some cookie) first) = Some (record { cookie = cookie; body = body; minutes = minutes })
 granted reply = None
 
--- an item under a lock stands for the grant of that lock
+-- an item that is found under a lock stands for the grant of that lock
 abbrev pub grant_under : Option Hold → Item → Option Grant
 grant_under None item = None
 grant_under (Some hold) item = Some (record { cookie = hold.cookie; body = item.body; minutes = item.minutes })
 
 -- the grant that an item stands for
-abbrev pub locked : Option Item → Option Grant
-locked None = None
-locked (Some item) = grant_under item.holder item
+abbrev pub grant_of : Option Item → Option Grant
+grant_of None = None
+grant_of (Some item) = grant_under item.holder item
 
 -- the grant with which the entries end: that of the last one, where it is on the key; before the first entry that of the key's item
 abbrev pub last_grant : (List ℕ → Option Item) → List ℕ → List Entry → Option Grant
-last_grant opening key [] = locked (opening key)
+last_grant opening key [] = grant_of (opening key)
 last_grant opening key (e ∷ []) = if is_deed_of key e.deed then granted e.reply else None
 last_grant opening key (e ∷ f ∷ es) = last_grant opening key (f ∷ es)
 

@@ -86,18 +86,25 @@ NoUpdateIsLost opening count list =
     → IsGranted opening key grant before until since
     → content_of (item_after opening count before key) ≡ Some (grant.body, grant.minutes)
 
--- The entry neither acquires, nor writes or removes unless it names the cookie.
-pub record IsKeptOff (opening : List ℕ → Option Item) (count : ℕ) (key : List ℕ) (before : List Entry) (e : Entry) (may : Option ℕ → Type 0) : Type 0 where
-  pub acquires_nothing : granted e.reply ≡ None
-  pub changes_nothing : IsTrue (is_asked is_change e.deed) → Acts opening count key before e → may (named_by e.deed)
+-- The entry is a write or a removal, and it acts.
+pub record Changes (opening : List ℕ → Option Item) (count : ℕ) (key : List ℕ) (before : List Entry) (e : Entry) : Type 0 where
+  pub kind : IsTrue (is_asked is_change e.deed)
+  pub acts : Acts opening count key before e
 
--- Where a lock is in force nobody acquires or writes from its grant on, but for the one who names its cookie now.
+-- From the grant on, whose entries up to it are until and those since it since, nobody acquires the lock, and nobody changes the
+-- item but the entry at this place by the lock's cookie.
+pub record IsAlone (opening : List ℕ → Option Item) (count : ℕ) (key : List ℕ) (grant : Grant) (until since : List Entry) (e : Entry) : Type 0 where
+  pub nobody_acquired : (middle : List Entry) (f : Entry) → StandsAt since key middle f → granted f.reply ≡ None
+  pub nobody_changed : (middle : List Entry) (f : Entry) → StandsAt since key middle f → Changes opening count key (until ++ middle) f → ⊥
+  pub acquires_nothing : granted e.reply ≡ None
+  pub changes_by_cookie : Changes opening count key (until ++ since) e → named_by e.deed ≡ Some grant.cookie
+
+-- Where a lock is in force nobody else has acquired or changed anything since its grant, and nobody does.
 abbrev pub NobodyElse : (List ℕ → Option Item) → ℕ → List Entry → Type 0
 NobodyElse opening count list =
     (key : List ℕ) (before : List Entry) (e : Entry) (grant : Grant) (until since : List Entry) → StandsAt list key before e
     → IsInForce opening count key grant.cookie before e.moment → IsGranted opening key grant before until since
-    → ((middle : List Entry) (f : Entry) → StandsAt since key middle f → IsKeptOff opening count key (until ++ middle) f (λ named. ⊥))
-    × IsKeptOff opening count key before e (λ named. named ≡ Some grant.cookie)
+    → IsAlone opening count key grant until since e
 
 -- What locks give.
 pub record LocksHold (opening : List ℕ → Option Item) (count : ℕ) (list : List Entry) : Type 0 where

@@ -3,6 +3,4 @@
 
 mod laws;
 
-pub use laws::{
-    acts_only_in_force, in_force_is_done, locks_hold, no_update_is_lost, nobody_else,
-};
+pub use laws::{acts_only_in_force, in_force_is_done, locks_hold, no_update_is_lost, nobody_else};
