@@ -1,5 +1,5 @@
--- When a lock is in force. It is read off what was asked, what was answered and at which moments, from the grant of the lock on.
--- A lock is known by the cookie with which it was granted.
+-- When a lock is in force: as long as it was granted, was not ended since, and has not run out with its item's timeout. This is
+-- read off what was asked, what was answered and at which moments. A lock is known by its cookie; moments are milliseconds.
 use Rattle.std.specs.Prelude.{◌≡◌, ℕ, ◌+◌, ◌*◌, ◌<◌, max, List, [], ◌∷◌, ◌++◌, filter, Option, Some, None, Bool, true, false, not, ◌&&◌, ◌||◌, nat_le, ◌==◌, if◌then◌else◌, IsFalse, ⊤}
 use Rattle.asp_messages.specs.declared.request.Ask.{Ask}
 use Rattle.asp_messages.specs.declared.request.Ask.TheVariants.{Release, Write, Remove, Reset}
@@ -29,7 +29,7 @@ abbrev pub granted : Reply → Option Grant
 granted (Found body minutes (Some cookie) first) = Some (record { cookie = cookie; body = body; minutes = minutes })
 granted reply = None
 
--- an item that is found under a lock stands for the grant of that lock
+-- an item that is under a lock stands for the grant of that lock
 abbrev pub grant_under : Option Hold → Item → Option Grant
 grant_under None item = None
 grant_under (Some hold) item = Some (record { cookie = hold.cookie; body = item.body; minutes = item.minutes })
@@ -90,18 +90,18 @@ is_given_up cookie (Asked request) Done = gives_up cookie request.ask
 is_given_up cookie (Expired key) reply = true
 is_given_up cookie deed reply = false
 
--- these replies say that nothing was done
+-- these replies say that nothing was done; even an item that had expired was left as it was
 abbrev pub is_refused : Reply → Bool
 is_refused NoMemory = true
 is_refused KeeperFault = true
 is_refused CookiesOut = true
 is_refused reply = false
 
--- the entry ends the lock of the cookie: it gives it up, or comes when it has run out and is not refused
+-- the entry ends the lock of the cookie: it gives it up; or it comes at the moment out, when the lock has run out, or later, and is not refused
 abbrev pub ends : ℕ → ℕ → Entry → Bool
 ends cookie out e = is_given_up cookie e.deed e.reply || (nat_le out e.moment && not (is_refused e.reply))
 
--- no entry since the grant ends it
+-- no entry since the grant ends it, where its item was last touched at the moment touched before them
 abbrev pub Lasts : Grant → ℕ → List Entry → Type 0
 Lasts grant touched [] = ⊤
 Lasts grant touched (e ∷ es) = IsFalse (ends grant.cookie (runs_out grant touched) e) × Lasts grant (touched_by touched e) es

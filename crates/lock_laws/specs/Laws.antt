@@ -52,7 +52,7 @@ abbrev pub Acts : (List ℕ → Option Item) → ℕ → List ℕ → List Entry
 Acts opening count key before e =
     seen (item_after opening count (before ++ e ∷ []) key) e.moment ≢ seen (item_after opening count before key) e.moment
 
--- done, or not possible for want of memory or for a fault of the keeper
+-- what was asked is done, or nothing was, for want of memory or a fault of the keeper
 abbrev pub IsAnsweredUnderLock : Reply → Type 0
 IsAnsweredUnderLock Done = ⊤
 IsAnsweredUnderLock NoMemory = ⊤
@@ -72,7 +72,7 @@ ActsOnlyInForce opening count list =
     (key : List ℕ) (before : List Entry) (e : Entry) (cookie : ℕ) → StandsAt list key before e
     → named_by e.deed ≡ Some cookie → Acts opening count key before e → IsInForce opening count key cookie before e.moment
 
--- A request that names a lock in force is done, or answered that nothing was done.
+-- A request that names a cookie whose lock is in force is done, or answered that nothing was for want of memory or a fault.
 abbrev pub InForceIsDone : (List ℕ → Option Item) → ℕ → List Entry → Type 0
 InForceIsDone opening count list =
     (key : List ℕ) (before : List Entry) (e : Entry) (cookie : ℕ) → StandsAt list key before e
@@ -91,8 +91,8 @@ pub record Changes (opening : List ℕ → Option Item) (count : ℕ) (key : Lis
   pub kind : IsTrue (is_asked is_change e.deed)
   pub acts : Acts opening count key before e
 
--- From the grant on, whose entries up to it are until and those since it since, nobody acquires the lock, and nobody changes the
--- item but the entry at this place by the lock's cookie.
+-- Since the grant, which is the last of until, no entry has acquired a lock or changed the item; nor does the entry e that stands
+-- behind, unless it names the cookie of the grant.
 pub record IsAlone (opening : List ℕ → Option Item) (count : ℕ) (key : List ℕ) (grant : Grant) (until since : List Entry) (e : Entry) : Type 0 where
   pub nobody_acquired : (middle : List Entry) (f : Entry) → StandsAt since key middle f → granted f.reply ≡ None
   pub nobody_changed : (middle : List Entry) (f : Entry) → StandsAt since key middle f → Changes opening count key (until ++ middle) f → ⊥
@@ -106,7 +106,7 @@ NobodyElse opening count list =
     → IsInForce opening count key grant.cookie before e.moment → IsGranted opening key grant before until since
     → IsAlone opening count key grant until since e
 
--- What locks give.
+-- What locks give: all four laws.
 pub record LocksHold (opening : List ℕ → Option Item) (count : ℕ) (list : List Entry) : Type 0 where
   pub acts_only_in_force : ActsOnlyInForce opening count list
   pub in_force_is_done : InForceIsDone opening count list

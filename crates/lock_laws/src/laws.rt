@@ -11,7 +11,8 @@ pub fn acts_only_in_force()
     ensures { (opening : List ℕ → Option Item) (count : ℕ) (list : List Entry) → IsLegal opening count list → ActsOnlyInForce opening count list }
 {}
 
-/// A request that names a lock in force is done, or answered that nothing was done.
+/// A request that names a cookie whose lock is in force is done, or answered that nothing was done,
+/// for want of memory or a fault of the keeper.
 pub fn in_force_is_done()
     ensures { (opening : List ℕ → Option Item) (count : ℕ) (list : List Entry) → IsLegal opening count list → InForceIsDone opening count list }
 {}
