@@ -3,11 +3,10 @@ use Rattle.std.proofs.Common.{◌≡◌, ℕ, ◌+◌, ◌<◌, ◌≤◌, Bool,
 use Rattle.std.specs.Prelude.{codes, nat_le}
 use Rattle.std.proofs.lemmas.Bool.Decides.{nat_tests}
 use Rattle.std.proofs.lemmas.List.{take_at, drop_at}
-use Rattle.httparse.specs.Grammar.{RequestHead}
 use Rattle.asp_base.proofs.NumberLemmas.{number_of-le}
 use Rattle.asp_base.specs.Numbers.{number_of}
-use Rattle.asp_messages.specs.Fields.{Field, Standing, absent, one, twice, at_least, number_or, number_needed, body_length, most_body, once, request_fields}
-use Rattle.asp_messages.specs.Head.{most_head, IsRequestHead}
+use Rattle.asp_messages.specs.Fields.{Field, Standing, absent, one, twice, at_least, number_or, number_needed, body_length, most_body, once}
+use Rattle.asp_messages.specs.Head.{most_head}
 use Rattle.asp_messages.specs.Stream.{IsWaiting}
 
 -- ---- numbers in fields are in range
@@ -48,8 +47,10 @@ split_alike a b c d len same = (
 
 -- ---- what waits
 
--- what waits for more is short
-pub waiting-short : (bytes : List ℕ) → IsWaiting IsRequestHead request_fields bytes → length bytes < most_head + most_body
-waiting-short bytes (inl (none, short)) = omega arith
-waiting-short bytes (inr await) =
-    omega (arith, ap length await.bytes_are, length-append await.front await.back, await.is_head.short, body_length-le _ _ await.announced, await.short)
+-- what waits for more is short, where heads are
+pub waiting-short : {H : Type 0} (IsHead : List ℕ → H → Type 0) (fields : H → List Field) (bytes : List ℕ)
+    → ((front : List ℕ) (head : H) → IsHead front head → length front ≤ most_head)
+    → IsWaiting IsHead fields bytes → length bytes < most_head + most_body
+waiting-short IsHead fields bytes heads (inl (none, short)) = omega arith
+waiting-short IsHead fields bytes heads (inr await) =
+    omega (arith, ap length await.bytes_are, length-append await.front await.back, heads await.front await.head await.is_head, body_length-le _ _ await.announced, await.short)
