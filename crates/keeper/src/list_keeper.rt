@@ -5,6 +5,7 @@ ghost use Rattle.keeper.specs.Causes.{HasKeepCause};
 ghost use Rattle.keeper.specs.Items.{Sets};
 ghost use Rattle.keeper.specs.Pairs.{item_at};
 
+use crate::due::due;
 use crate::pairs::{cut, get, put};
 use crate::{KeepError, Keeper};
 use asp_base::Bytes;
@@ -78,7 +79,7 @@ impl Keeper for ListKeeper {
     }
 
     fn due(&mut self, t: u64) -> Result<Option<Bytes>, KeepError> {
-        Err(KeepError::NoMemory)
+        Ok(due(self.alloc, &self.pairs, t)?)
     }
 
     fn faults(&self) -> u64 {
