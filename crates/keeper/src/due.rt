@@ -1,5 +1,5 @@
 //! Which pair of a list is to be removed next.
-ghost use Rattle.std.specs.Prelude.{◌≡◌, ◌↔◌, ◌++◌, [], ◌∷◌, ℕ, List, IfOk, IfSome, IsTrue, Some, None, option_copied};
+ghost use Rattle.std.specs.Prelude.{◌≡◌, ◌↔◌, ◌++◌, [], ◌∷◌, ℕ, List, IfOk, IfSome, IsOk, IsTrue, Some, None, option_copied};
 ghost use Rattle.asp_messages.specs.Ranges.{KeyFits};
 ghost use Rattle.session_machine.specs.declared.item.Item.{Item};
 ghost use Rattle.session_machine.specs.Liveness as liveness;
@@ -60,6 +60,7 @@ pub fn due(alloc: Global, pairs: &[(Bytes, Item)], t: u64) -> Result<Option<Byte
     requires { IsMap pairs.now }
     ensures due { IfOk result (TellsDue (Some (item_at pairs.now)) t) }
     ensures fits { IfOk result (λ key. IfSome key KeyFits) }
+    ensures none { TellsDue (Some (item_at pairs.now)) t None → IsOk result }
 {
     match first_due(pairs, t) {
         Some((key, _)) => Ok(Some(Bytes::copy(alloc, key.as_slice())?)),

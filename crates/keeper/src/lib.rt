@@ -14,3 +14,6 @@ pub use faulty_keeper::FaultyKeeper;
 pub use keeping::Keeper;
 pub use list_keeper::ListKeeper;
 pub use ran::Ran;
+
+#[cfg(test)]
+mod tests;
