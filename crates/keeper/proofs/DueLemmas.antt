@@ -79,8 +79,8 @@ IsFirstPair-none pairs t pair live expired = record {
   there = Contains-push pairs pair;
   expired = expired;
   first = All-push (FirstBefore t pair) pairs pair
-  (All-weaker (λ other. t < expiry other.1) (FirstBefore t pair) (λ other above due. absurd (omega arith)) pairs live)
-  (λ due. ComesBefore-refl (expiry pair.1) pair.0);
+      (All-weaker (λ other. t < expiry other.1) (FirstBefore t pair) (λ other above due. absurd (omega arith)) pairs live)
+      (λ due. ComesBefore-refl (expiry pair.1) pair.0);
 }
 
 pub IsFirstPair-new : (pairs : List (List ℕ × Item)) (t : ℕ) (best pair : List ℕ × Item) → IsFirstPair pairs t best → expiry pair.1 ≤ t
@@ -91,8 +91,8 @@ IsFirstPair-new pairs t best pair was expired after =
       there = Contains-push pairs pair;
       expired = expired;
       first = All-push (FirstBefore t pair) pairs pair
-      (All-weaker (FirstBefore t best) (FirstBefore t pair) (λ other first due. ComesBefore-trans (expiry pair.1) pair.0 (expiry best.1) best.0 (expiry other.1) other.0 before (first due)) pairs was.first)
-      (λ due. ComesBefore-refl (expiry pair.1) pair.0);
+          (All-weaker (FirstBefore t best) (FirstBefore t pair) (λ other first due. ComesBefore-trans (expiry pair.1) pair.0 (expiry best.1) best.0 (expiry other.1) other.0 before (first due)) pairs was.first)
+          (λ due. ComesBefore-refl (expiry pair.1) pair.0);
     }
 
 abbrev ItemIn : List ℕ × Item → Type 0

@@ -1,5 +1,6 @@
 //! Each call at its worked values, through the trait at both keepers.
 ghost use Rattle.std.specs.Prelude.{◌≡◌, ◌≤◌, length, IfOk};
+ghost use Rattle.asp_messages.specs.Ranges.{KeyFits};
 ghost use Rattle.session_machine.specs.Liveness.{ItemFits};
 ghost use Rattle.keeper.specs.Items.{IsEmptyTold};
 
@@ -8,7 +9,6 @@ use asp_base::{Bytes, NoMemory};
 use session_machine::Item;
 use std::alloc::Global;
 use std::process::Abort;
-use std::test::Fail;
 
 fn item(alloc: Global, content: &[u8]) -> Result<Item, NoMemory>
     requires { length content.now ≤ 4194304 }
@@ -23,62 +23,98 @@ fn item(alloc: Global, content: &[u8]) -> Result<Item, NoMemory>
     })
 }
 
-// The conditions under which a run takes a keeper.
-fn expires_in_order<K: Keeper + Drop>(
-    rt: &impl Abort,
+fn put<K: Keeper>(
     alloc: Global,
-    mut keeper: K,
-) -> Result<(), Fail>
+    keeper: &mut K,
+    key: &[u8],
+    content: &[u8],
+) -> Result<(), KeepError>
+    requires key { KeyFits key.now }
+    requires content { length content.now ≤ 4194304 }
+{
+    let item = item(alloc, content)?;
+    let key = Bytes::copy(alloc, key)?;
+    keeper.put(&key, item)
+}
+
+fn cut<K: Keeper>(alloc: Global, keeper: &mut K, key: &[u8]) -> Result<(), KeepError>
+    requires { KeyFits key.now }
+{
+    let key = Bytes::copy(alloc, key)?;
+    keeper.cut(&key)
+}
+
+/// Whether the item of the key has this content; an empty one stands for no item.
+fn has<K: Keeper>(
+    alloc: Global,
+    keeper: &mut K,
+    key: &[u8],
+    content: &[u8],
+) -> Result<bool, KeepError>
+    requires { KeyFits key.now }
+{
+    let key = Bytes::copy(alloc, key)?;
+    match keeper.get(&key)? {
+        Some(item) => Ok(item.body.as_slice() == content),
+        None => Ok(content.is_empty()),
+    }
+}
+
+/// Whether this key is due at the moment; an empty one stands for none.
+fn is_due<K: Keeper>(keeper: &mut K, t: u64, key: &[u8]) -> Result<bool, KeepError> {
+    match keeper.due(t)? {
+        Some(found) => Ok(found.as_slice() == key),
+        None => Ok(key.is_empty()),
+    }
+}
+
+// The conditions are those under which a run takes a keeper.
+fn expires_in_order<K: Keeper + Drop>(rt: &impl Abort, alloc: Global, mut keeper: K)
     requires count { K.count keeper ≡ 0 }
     requires empty { IsEmptyTold (K.told keeper) }
 {
-    let a = Bytes::copy(alloc, b"/a")?;
-    let b = Bytes::copy(alloc, b"/b")?;
-    assert_eq!(rt; keeper.due(60_000)?, None);
-    keeper.put(&b, item(alloc, b"x")?)?;
-    keeper.put(&a, item(alloc, b"old")?)?;
-    keeper.put(&a, item(alloc, b"y")?)?;
-    assert_eq!(rt; keeper.get(&a)?, Some(item(alloc, b"y")?));
-    assert_eq!(rt; keeper.get(&b)?, Some(item(alloc, b"x")?));
-    assert_eq!(rt; keeper.due(59_999)?, None);
-    for key in [b"/a", b"/b"] {
-        let first = keeper.due(60_000)?;
-        assert_eq!(rt; first, Some(Bytes::copy(alloc, key)?));
-        keeper.cut(&Bytes::copy(alloc, key)?)?;
-    }
-    assert_eq!(rt; keeper.due(60_000)?, None);
-    assert_eq!(rt; keeper.get(&a)?, None);
+    assert_eq!(rt; is_due(&mut keeper, 60_000, b""), Ok(true));
+    assert_eq!(rt; put(alloc, &mut keeper, b"/b", b"x"), Ok(()));
+    assert_eq!(rt; put(alloc, &mut keeper, b"/a", b"old"), Ok(()));
+    assert_eq!(rt; put(alloc, &mut keeper, b"/a", b"y"), Ok(()));
+    assert_eq!(rt; has(alloc, &mut keeper, b"/a", b"y"), Ok(true));
+    assert_eq!(rt; has(alloc, &mut keeper, b"/b", b"x"), Ok(true));
+    assert_eq!(rt; is_due(&mut keeper, 59_999, b""), Ok(true));
+    assert_eq!(rt; is_due(&mut keeper, 60_000, b"/a"), Ok(true));
+    assert_eq!(rt; cut(alloc, &mut keeper, b"/a"), Ok(()));
+    assert_eq!(rt; has(alloc, &mut keeper, b"/a", b""), Ok(true));
+    assert_eq!(rt; is_due(&mut keeper, 60_000, b"/b"), Ok(true));
+    assert_eq!(rt; cut(alloc, &mut keeper, b"/b"), Ok(()));
+    assert_eq!(rt; is_due(&mut keeper, 60_000, b""), Ok(true));
     assert_eq!(rt; keeper.faults(), 0);
-    Ok(())
 }
 
 #[test]
-fn items_expire_in_order(rt: HostRuntime) -> Result<(), Fail> {
+fn items_expire_in_order(rt: HostRuntime) {
     let alloc = rt.alloc();
-    expires_in_order(&rt, alloc, ListKeeper::new(alloc))?;
+    expires_in_order(&rt, alloc, ListKeeper::new(alloc));
     let none = Vec::new(alloc);
-    expires_in_order(
-        &rt,
-        alloc,
-        FaultyKeeper::new(ListKeeper::new(alloc), none),
-    )
+    let keeper = FaultyKeeper::new(ListKeeper::new(alloc), none);
+    expires_in_order(&rt, alloc, keeper);
 }
 
+// The inner keeper's own failing call is the fifth that reaches it.
 #[test]
-fn listed_calls_fail_and_change_nothing(rt: HostRuntime) -> Result<(), Fail> {
+fn listed_calls_fail_and_change_nothing(rt: HostRuntime) {
     let alloc = rt.alloc();
-    let a = Bytes::copy(alloc, b"/a")?;
-    let inner = FaultyKeeper::new(ListKeeper::new(alloc), vec![in alloc; 4]?);
-    let mut keeper = FaultyKeeper::new(inner, vec![in alloc; 1, 2, 7]?);
-    assert_eq!(rt; keeper.put(&a, item(alloc, b"x")?), Ok(()));
-    assert_eq!(rt; keeper.put(&a, item(alloc, b"y")?), Err(KeepError::Fault));
-    assert_eq!(rt; keeper.cut(&a), Err(KeepError::Fault));
-    assert_eq!(rt; keeper.get(&a), Ok(Some(item(alloc, b"x")?)));
+    let inner_fails = vec![in alloc; 4].expect(&rt, "memory");
+    let fails = vec![in alloc; 1, 2, 7].expect(&rt, "memory");
+    let inner = FaultyKeeper::new(ListKeeper::new(alloc), inner_fails);
+    let mut keeper = FaultyKeeper::new(inner, fails);
+    assert_eq!(rt; put(alloc, &mut keeper, b"/a", b"x"), Ok(()));
+    assert_eq!(rt; put(alloc, &mut keeper, b"/a", b"y"), Err(KeepError::Fault));
+    assert_eq!(rt; cut(alloc, &mut keeper, b"/a"), Err(KeepError::Fault));
+    assert_eq!(rt; has(alloc, &mut keeper, b"/a", b"x"), Ok(true));
     assert_eq!(rt; keeper.faults(), 2);
-    assert_eq!(rt; keeper.due(60_000), Ok(Some(Bytes::copy(alloc, b"/a")?)));
-    assert_eq!(rt; keeper.cut(&a), Ok(()));
-    assert_eq!(rt; keeper.get(&a), Err(KeepError::Fault));
-    assert_eq!(rt; keeper.due(60_000), Err(KeepError::Fault));
+    assert_eq!(rt; is_due(&mut keeper, 60_000, b"/a"), Ok(true));
+    assert_eq!(rt; cut(alloc, &mut keeper, b"/a"), Ok(()));
+    assert_eq!(rt; is_due(&mut keeper, 60_000, b""), Err(KeepError::Fault));
+    assert_eq!(rt; has(alloc, &mut keeper, b"/a", b""), Err(KeepError::Fault));
     assert_eq!(rt; keeper.faults(), 4);
-    Ok(())
+    assert_eq!(rt; has(alloc, &mut keeper, b"/a", b""), Ok(true));
 }
