@@ -1,5 +1,5 @@
 -- A list of pairs as a map: what a change of the list does to it.
-use Rattle.std.proofs.Common.{◌≡◌, ℕ, zero, suc, ◌+◌, ◌<◌, Bool, true, false, cond, List, [], ◌∷◌, ◌++◌, length, get_or, set, drop, Some, None, refl, sym, ap, ◌∙◌, arith, subst}
+use Rattle.std.proofs.Common.{◌≡◌, ◌≢◌, ℕ, zero, suc, ◌+◌, ◌<◌, Bool, true, false, cond, List, [], ◌∷◌, ◌++◌, length, get_or, set, drop, Some, None, refl, sym, ap, ◌∙◌, arith, subst}
 use Rattle.std.specs.Prelude.{not, filter}
 use Rattle.std.specs.Str.{bytes_eq}
 use Rattle.std.proofs.lemmas.Slice.Eq.{bytes_eq-Decides}
@@ -20,6 +20,9 @@ both_cannot b p q = cc
 false_if_not : (b : Bool) → (b ≡ true → ⊥) → b ≡ false
 false_if_not true h = absurd (h refl)
 false_if_not false h = refl
+
+pub bytes_eq-apart : (a b : List ℕ) → a ≢ b → bytes_eq b a ≡ false
+bytes_eq-apart a b apart = false_if_not (bytes_eq b a) (λ same. apart (sym (bytes_eq-same b a same)))
 
 pub bytes_eq-symm-false : (a b : List ℕ) → bytes_eq a b ≡ false → bytes_eq b a ≡ false
 bytes_eq-symm-false a b h = false_if_not (bytes_eq b a) (λ same.

@@ -1,10 +1,13 @@
 //! A keeper over a list of pairs: the plain body that others are compared with.
-ghost use Rattle.std.specs.Prelude.{◌≡◌, ℕ, [], Some, None, IfOk, IfSome, IsOk, OnOk, OnErr};
+ghost use Rattle.std.specs.Prelude.{◌≡◌, ℕ, [], Some, None, IfOk, IfSome, IsOk, IsSome, OnOk, OnErr};
 ghost use Rattle.asp_messages.specs.Ranges.{KeyFits};
+ghost use Rattle.session_machine.specs.Liveness.{ItemFits};
 ghost use Rattle.keeper.specs.Causes.{HasKeepCause};
+ghost use Rattle.keeper.specs.Due.{TellsDue};
 ghost use Rattle.keeper.specs.Items.{Sets};
 ghost use Rattle.keeper.specs.Pairs.{item_at};
 
+use crate::due::due;
 use crate::pairs::{cut, get, put};
 use crate::{KeepError, Keeper};
 use asp_base::Bytes;
@@ -57,11 +60,27 @@ impl Keeper for ListKeeper {
 
     ghost counts = { λ _. refl };
 
-    fn get(&mut self, key: &Bytes) -> Result<Option<Item>, KeepError> {
+    // It takes no memory where the key has no item.
+    fn get(&mut self, key: &Bytes) -> Result<Option<Item>, KeepError>
+        requires { KeyFits key.now }
+        ensures item { IfOk result (λ item. item ≡ item_at self.old key.now) }
+        ensures fits { IfOk result (λ item. IfSome item ItemFits) }
+        ensures absent { item_at self.old key.now ≡ None → IsOk result }
+        ensures same { self.new ≡ self.old }
+        ensures cause { HasKeepCause 0 0 result }
+    {
         Ok(get(self.alloc, &self.pairs, key)?)
     }
 
-    fn put(&mut self, key: &Bytes, item: Item) -> Result<(), KeepError> {
+    // It takes no memory where the key has an item.
+    fn put(&mut self, key: &Bytes, item: Item) -> Result<(), KeepError>
+        requires key { KeyFits key.now }
+        requires item { ItemFits item }
+        ensures ok { OnOk result (Sets (item_at self.old) (item_at self.new) key.now (Some item)) }
+        ensures err { OnErr result (self.new ≡ self.old) }
+        ensures there { IsSome (item_at self.old key.now) → IsOk result }
+        ensures cause { HasKeepCause 0 0 result }
+    {
         put(self.alloc, &mut self.pairs, key, item)?;
         Ok(())
     }
@@ -69,16 +88,23 @@ impl Keeper for ListKeeper {
     // It takes no memory.
     fn cut(&mut self, key: &Bytes) -> Result<(), KeepError>
         requires { KeyFits key.now }
-        ensures done { IsOk result }
-        ensures ok { OnOk result (Sets (item_at self.old) (item_at self.new) key.now None) }
+        ensures ok { IsOk result }
+        ensures cut { Sets (item_at self.old) (item_at self.new) key.now None }
         ensures cause { HasKeepCause 0 0 result }
     {
         cut(&mut self.pairs, key);
         Ok(())
     }
 
-    fn due(&mut self, t: u64) -> Result<Option<Bytes>, KeepError> {
-        Err(KeepError::NoMemory)
+    // It takes no memory where no item has expired.
+    fn due(&mut self, t: u64) -> Result<Option<Bytes>, KeepError>
+        ensures due { IfOk result (TellsDue (Some (item_at self.old)) t) }
+        ensures fits { IfOk result (λ key. IfSome key KeyFits) }
+        ensures none { TellsDue (Some (item_at self.old)) t None → IsOk result }
+        ensures same { self.new ≡ self.old }
+        ensures cause { HasKeepCause 0 0 result }
+    {
+        Ok(due(self.alloc, &self.pairs, t)?)
     }
 
     fn faults(&self) -> u64 {

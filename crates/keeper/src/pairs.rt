@@ -1,5 +1,5 @@
 //! A list of pairs of key and item, as a map.
-ghost use Rattle.std.specs.Prelude.{◌≡◌, Some, None, IfOk, IfSome, OnOk, OnErr, MatchOption, option_copied};
+ghost use Rattle.std.specs.Prelude.{◌≡◌, Some, None, IfOk, IfSome, IsOk, IsSome, OnOk, OnErr, MatchOption, option_copied};
 ghost use Rattle.keeper.specs.Items.{Sets};
 ghost use Rattle.keeper.specs.Pairs.{IsFirstOf, IsMap, IsPlaceOf, item_at};
 ghost use Rattle.asp_messages.specs.Ranges.{KeyFits};
@@ -39,6 +39,7 @@ pub fn get(alloc: Global, pairs: &[(Bytes, Item)], key: &Bytes) -> Result<Option
     requires { IsMap pairs.now }
     ensures item { IfOk result (λ item. item ≡ item_at pairs.now key.now) }
     ensures fits { IfOk result (λ item. IfSome item ItemFits) }
+    ensures absent { item_at pairs.now key.now ≡ None → IsOk result }
 {
     match find(pairs, key) {
         Some(item) => Ok(Some(copy(alloc, item)?)),
@@ -70,6 +71,7 @@ pub fn put(
     requires item { ItemFits item }
     ensures ok { OnOk result (Sets (item_at pairs.old.items) (item_at pairs.new.items) key.now (Some item)) }
     ensures err { OnErr result (pairs.new.items ≡ pairs.old.items) }
+    ensures there { IsSome (item_at pairs.old.items key.now) → IsOk result }
     ensures map { IsMap pairs.new.items }
 {
     match place(pairs, key) {

@@ -1,0 +1,140 @@
+//! A keeper that fails where it is told to.
+ghost use Rattle.std.specs.Prelude.{◌≡◌, ◌↔◌, ℕ, ◌<◌, ◌^◌, Some, None, IfOk, IfSome, IsTrue, OnOk, OnErr, Contains, if◌then◌else◌};
+ghost use Rattle.asp_base.specs.InMemory.{one_more};
+ghost use Rattle.asp_messages.specs.Ranges.{KeyFits};
+ghost use Rattle.session_machine.specs.Liveness.{ItemFits};
+ghost use Rattle.keeper.specs.Causes.{HasKeepCause};
+ghost use Rattle.keeper.specs.Due.{TellsDue};
+ghost use Rattle.keeper.specs.Faulty.{FailsListed, all_faults};
+ghost use Rattle.keeper.specs.Items.{TellsItem, TellsSets};
+
+use crate::{KeepError, Keeper};
+use asp_base::Bytes;
+use session_machine::Item;
+use std::marker::Model;
+
+/// A keeper over another that fails the listed calls. Its calls of `get`, `put`, `cut` and `due` are
+/// numbered together, from 0.
+#[derive(Debug, Drop)]
+pub struct FaultyKeeper<K> {
+    inner: K,
+    calls: u64,
+    fails: Vec<u64>,
+    faults: u64,
+}
+
+impl<K> Model for FaultyKeeper<K> {
+    ghost use Rattle.keeper.specs.Faulty.{Wrapped};
+
+    ghost Value = { Wrapped K };
+
+    ghost view = { λ k. record { inner = k.inner; calls = k.calls; fails = k.fails.items; faults = k.faults } };
+}
+
+impl<K> FaultyKeeper<K> {
+    /// A keeper over `inner`. `fails` lists the numbers of the calls that fail; a failed call is
+    /// counted and does not reach `inner`, and every other call is that of `inner`.
+    pub fn new(inner: K, fails: Vec<u64>) -> FaultyKeeper<K>
+        ensures { result ≡ record { inner = inner; calls = 0; fails = fails.items; faults = 0 } }
+    {
+        FaultyKeeper {
+            inner,
+            calls: 0,
+            fails,
+            faults: 0,
+        }
+    }
+
+    /// Counts the call, and answers whether it fails.
+    fn fails_next(&mut self) -> bool
+        ensures listed { IsTrue result ↔ Contains self.old.fails self.old.calls }
+        ensures inner { self.new.inner ≡ self.old.inner }
+        ensures calls { self.new.calls ≡ one_more self.old.calls }
+        ensures fails { self.new.fails ≡ self.old.fails }
+        ensures faults { self.new.faults ≡ (if result then one_more self.old.faults else self.old.faults) }
+    {
+        let call = self.calls;
+        self.calls = call.saturating_add(1);
+        let fails = self.fails.contains(&call);
+        if fails {
+            self.faults = self.faults.saturating_add(1);
+        }
+        fails
+    }
+}
+
+impl<K: Keeper> Keeper for FaultyKeeper<K> {
+    ghost told = { λ k. K.told k.inner };
+
+    ghost floor = { λ k. K.floor k.inner };
+
+    ghost count = { λ k. all_faults k.faults (K.count k.inner) };
+
+    ghost can_count = { λ n. n < 2 ^ 64 };
+
+    ghost use Rattle.std.proofs.Common.{arith};
+
+    ghost counts = { λ k. omega arith };
+
+    fn get(&mut self, key: &Bytes) -> Result<Option<Item>, KeepError>
+        requires { KeyFits key.now }
+        ensures item { IfOk result (TellsItem (K.told self.old.inner) key.now) }
+        ensures fits { IfOk result (λ item. IfSome item ItemFits) }
+        ensures same { K.told self.new.inner ≡ K.told self.old.inner }
+        ensures floor { K.floor self.new.inner ≡ K.floor self.old.inner }
+        ensures cause { HasKeepCause (all_faults self.old.faults (K.count self.old.inner)) (all_faults self.new.faults (K.count self.new.inner)) result }
+        ensures failing { FailsListed K.count self.old self.new result }
+    {
+        if self.fails_next() {
+            return Err(KeepError::Fault);
+        }
+        self.inner.get(key)
+    }
+
+    fn put(&mut self, key: &Bytes, item: Item) -> Result<(), KeepError>
+        requires key { KeyFits key.now }
+        requires item { ItemFits item }
+        ensures ok { OnOk result (TellsSets (K.told self.old.inner) (K.told self.new.inner) key.now (Some item)) }
+        ensures err { OnErr result (K.told self.new.inner ≡ K.told self.old.inner) }
+        ensures floor { K.floor self.new.inner ≡ K.floor self.old.inner }
+        ensures cause { HasKeepCause (all_faults self.old.faults (K.count self.old.inner)) (all_faults self.new.faults (K.count self.new.inner)) result }
+        ensures failing { FailsListed K.count self.old self.new result }
+    {
+        if self.fails_next() {
+            return Err(KeepError::Fault);
+        }
+        self.inner.put(key, item)
+    }
+
+    fn cut(&mut self, key: &Bytes) -> Result<(), KeepError>
+        requires { KeyFits key.now }
+        ensures ok { OnOk result (TellsSets (K.told self.old.inner) (K.told self.new.inner) key.now None) }
+        ensures err { OnErr result (K.told self.new.inner ≡ K.told self.old.inner) }
+        ensures floor { K.floor self.new.inner ≡ K.floor self.old.inner }
+        ensures cause { HasKeepCause (all_faults self.old.faults (K.count self.old.inner)) (all_faults self.new.faults (K.count self.new.inner)) result }
+        ensures failing { FailsListed K.count self.old self.new result }
+    {
+        if self.fails_next() {
+            return Err(KeepError::Fault);
+        }
+        self.inner.cut(key)
+    }
+
+    fn due(&mut self, t: u64) -> Result<Option<Bytes>, KeepError>
+        ensures due { IfOk result (TellsDue (K.told self.old.inner) t) }
+        ensures fits { IfOk result (λ key. IfSome key KeyFits) }
+        ensures same { K.told self.new.inner ≡ K.told self.old.inner }
+        ensures floor { K.floor self.new.inner ≡ K.floor self.old.inner }
+        ensures cause { HasKeepCause (all_faults self.old.faults (K.count self.old.inner)) (all_faults self.new.faults (K.count self.new.inner)) result }
+        ensures failing { FailsListed K.count self.old self.new result }
+    {
+        if self.fails_next() {
+            return Err(KeepError::Fault);
+        }
+        self.inner.due(t)
+    }
+
+    fn faults(&self) -> u64 {
+        self.faults.saturating_add(self.inner.faults())
+    }
+}
