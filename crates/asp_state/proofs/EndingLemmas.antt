@@ -1,5 +1,5 @@
 -- A run from its beginning to its end.
-use Rattle.std.proofs.Common.{◌≡◌, ℕ, ◌+◌, ◌-◌, ◌<◌, ◌≤◌, ◌^◌, List, [], ◌∷◌, ◌++◌, length, Option, Some, None, refl, sym, ap, ◌∙◌, arith, subst, inl, inr, append-nil, length-append}
+use Rattle.std.proofs.Common.{◌≡◌, ℕ, ◌+◌, ◌-◌, ◌<◌, ◌≤◌, ◌^◌, List, [], ◌∷◌, ◌++◌, length, Option, Some, None, refl, sym, ap, ◌∙◌, arith, subst, cond, inl, inr, append-nil, length-append}
 use Rattle.std.specs.Prelude.{◌≢◌}
 use Rattle.asp_base.specs.Moments.{step_moment}
 use Rattle.asp_base.specs.Outside.{Takes, TakesFront, Gives, IsAtEnd}
@@ -13,6 +13,17 @@ use Rattle.asp_messages.proofs.StreamLemmas.{Spelled-append}
 use Rattle.session_machine.specs.declared.item.Item.{Item}
 use Rattle.session_machine.specs.History.{nothing}
 use Rattle.shard_core.specs.Standing.{StandsFor}
+use Rattle.asp_messages.specs.declared.request.Ask.TheVariants.{Read}
+use Rattle.asp_messages.specs.declared.request.Message.TheVariants.{Fit}
+use Rattle.asp_messages.specs.declared.request.Request.{Request}
+use Rattle.asp_messages.specs.Ranges.{RequestFits}
+use Rattle.asp_messages.specs.RequestText.{request_text}
+use Rattle.asp_messages.proofs.SentRequestLemmas.{request_spelled}
+use Rattle.percent_encoding.proofs.PercentLemmas.{IsByte}
+use Rattle.std.proofs.lemmas.List.Elements.{All-from_recursion}
+use Rattle.std.specs.Prelude.{All, IsFalse}
+use Rattle.message_framing.specs.Held.{fed}
+use Rattle.stream_core.specs.Connection.{Connection}
 use Rattle.asp_state.specs.declared.pipe.Pipe.{Pipe}
 use Rattle.asp_state.specs.declared.pipe.End.{End}
 use Rattle.asp_state.specs.declared.pipe.End.TheVariants as ends
@@ -180,3 +191,57 @@ ended-unfed CanCount pipe source source' source'' sink sink' piece s left run gi
 
 pub hopeless-none : (rest : List ℕ) → IsHopeless SpellsRequest rest → HasNoMessage SpellsRequest rest
 hopeless-none rest hopeless front back m is s = hopeless [] front back m (append-nil rest ∙ is) s
+
+hopeless-after : (r : Request) → RequestFits r → All IsByte r.key → (rest : List ℕ) → IsHopeless SpellsRequest rest → rest ≢ []
+hopeless-after r fits bytes rest hopeless none =
+    hopeless (request_text r) (request_text r) [] (Fit r) (ap (λ t. t ++ request_text r) none ∙ sym (append-nil _)) (request_spelled r fits bytes)
+
+-- a rest that is hopeless is not empty: a read of `/` could follow it
+pub hopeless-some : (rest : List ℕ) → IsHopeless SpellsRequest rest → rest ≢ []
+hopeless-some rest hopeless =
+    hopeless-after (record { key = 47 ∷ []; ask = Read }) (record { key = (omega arith, omega arith); ask = tt }) (All-from_recursion IsByte (47 ∷ []) (omega arith, tt)) rest hopeless
+
+-- what a stream holds that was fed a piece
+pub fed_is : (old new : Connection) (piece : List ℕ) → new ≡ record old { reader = fed old.reader piece } → IsFalse old.reader.is_broken → new.reader.held ≡ old.reader.held ++ piece
+fed_is old new piece is whole = ap (λ (s : Connection). s.reader.held) is ∙ ap (λ b. cond b [] (old.reader.held ++ piece)) whole
+
+-- ---- one turn of the loop: a piece was fed, and the messages that are whole with it are answered
+
+module _ (CanCount : ℕ → Type 0) (pipe : Pipe) (source source' source'' : Option (List ℕ × List ℕ)) (sink sink' sink'' : Option (List ℕ))
+    (s fed s' : ServerState) (piece : List ℕ) (left left' : ℕ)
+    (run : Running CanCount pipe source source' sink sink' s left)
+    (is : fed ≡ record s { held = s.held ++ piece })
+    (gives : Gives source' source'' piece)
+    (less : left' + length piece ≡ left)
+  where
+    run_fed : Running CanCount pipe source source'' sink sink' fed left'
+    run_fed = Running-fed CanCount pipe source source' source'' sink sink' piece s fed left left' is run gives less
+
+    pub turn-on : GoesOn CanCount sink' sink'' fed s' → Running CanCount pipe source source'' sink sink'' s' left'
+    turn-on goes = Running-on CanCount pipe source source'' sink sink' sink'' fed s' left' run_fed goes
+
+    pub turn-no_memory : GoesOn CanCount sink' sink'' fed s' → IsRun CanCount pipe source source'' sink sink'' s'.told s'.faults ends.NoMemory
+    turn-no_memory goes = ended-no_memory CanCount pipe source source'' sink sink'' s' left' (turn-on goes)
+
+    pub turn-write : GoesInPart CanCount sink' sink'' fed s' → IsRun CanCount pipe source source'' sink sink'' s'.told s'.faults ends.WriteFault
+    turn-write part = ended-write CanCount pipe source source'' sink sink' sink'' fed s' left' run_fed part
+
+    module _ (rest : List ℕ) (hopeless : IsHopeless SpellsRequest rest) (goes : GoesOn CanCount sink' sink'' fed (record s' { held = rest })) where
+      run_on : Running CanCount pipe source source'' sink sink'' (record s' { held = rest }) left'
+      run_on = Running-on CanCount pipe source source'' sink sink' sink'' fed (record s' { held = rest }) left' run_fed goes
+
+      pub turn-long : left' ≡ 0 → IsRun CanCount pipe source source'' sink sink'' s'.told s'.faults ends.Long
+      turn-long all = ended-long CanCount pipe source source'' sink sink'' (record s' { held = rest }) left' run_on (hopeless-none rest hopeless) all
+
+      pub turn-badly : (end : End) (last : Option (List ℕ)) → 0 < left' → EndsBadly end sink'' last → IsRun CanCount pipe source source'' sink last s'.told s'.faults end
+      turn-badly end last some bad =
+          ended-badly CanCount pipe source source'' sink sink'' (record s' { held = rest }) left' run_on end last
+          (hopeless-some rest hopeless, inl hopeless) (hopeless-none rest hopeless) some bad
+
+-- the input ended inside a message
+pub stop-badly : (CanCount : ℕ → Type 0) (pipe : Pipe) (source source' source'' : Option (List ℕ × List ℕ)) (sink sink' last : Option (List ℕ)) (s : ServerState) (left : ℕ) (end : End)
+    → Running CanCount pipe source source' sink sink' s left → Gives source' source'' [] → IsAtEnd source'' → s.held ≢ [] → HasNoMessage SpellsRequest s.held → 0 < left → EndsBadly end sink' last
+    → IsRun CanCount pipe source source'' sink last s.told s.faults end
+stop-badly CanCount pipe source source' source'' sink sink' last s left end run gives ended some none more bad =
+    ended-badly CanCount pipe source source'' sink sink' s left (Running-same CanCount pipe source source' source'' sink sink' s left run gives) end last
+    (some, inr ended) none more bad

@@ -4,7 +4,9 @@
 mod answering;
 mod pipe;
 mod reading;
+mod running;
 mod server;
+mod words;
 mod writing;
 
 fn main() {}

@@ -31,7 +31,7 @@ pub loop-message-preserved : goal.loop-message-preserved
 loop-message-preserved g c =
     let took = c.in-Message.ensures.message in
     record {
-      goes = GoesOn-step _ _ _ _ _ (state_of c.loop-message.server (g.K.Keeper.told c.loop-message.server.shard) (g.K.Keeper.count c.loop-message.server.shard)) _ took.front c.next.new.self.reader.held c.in-Message.message
+      goes = GoesOn-step g.K.Keeper.can_count (g.T.Sink.taken c.args.sink.now) (g.T.Sink.taken c.loop-message.sink) (g.T.Sink.taken c.answer.new.sink) (state_of c.args.server.now (g.K.Keeper.told c.args.server.now.shard) (g.K.Keeper.count c.args.server.now.shard)) (state_of c.loop-message.server (g.K.Keeper.told c.loop-message.server.shard) (g.K.Keeper.count c.loop-message.server.shard)) (state_of c.answer.new.server (g.K.Keeper.told c.answer.new.server.shard) (g.K.Keeper.count c.answer.new.server.shard)) took.front c.next.new.self.reader.held c.in-Message.message
           c.loop-message.invariant.goes took.held took.spells c.in-Ok.ensures.answered;
       whole = ap (λ (r : Held). r.is_broken) c.answer.ensures.reader ∙ took.whole ∙ c.loop-message.invariant.whole;
       cookies = c.answer.ensures.cookies;
@@ -42,7 +42,7 @@ loop-message-preserved g c =
 pub returns-in-Err-clause-in_part : goal.returns-in-Err-clause-in_part
 returns-in-Err-clause-in_part g c = λ _.
     let took = c.in-Message.ensures.message in
-    GoesOn-part _ _ _ _ _ (state_of c.loop-message.server (g.K.Keeper.told c.loop-message.server.shard) (g.K.Keeper.count c.loop-message.server.shard)) _ took.front c.next.new.self.reader.held c.in-Message.message
+    GoesOn-part g.K.Keeper.can_count (g.T.Sink.taken c.args.sink.now) (g.T.Sink.taken c.loop-message.sink) (g.T.Sink.taken c.answer.new.sink) (state_of c.args.server.now (g.K.Keeper.told c.args.server.now.shard) (g.K.Keeper.count c.args.server.now.shard)) (state_of c.loop-message.server (g.K.Keeper.told c.loop-message.server.shard) (g.K.Keeper.count c.loop-message.server.shard)) (state_of c.answer.new.server (g.K.Keeper.told c.answer.new.server.shard) (g.K.Keeper.count c.answer.new.server.shard)) took.front c.next.new.self.reader.held c.in-Message.message
     c.loop-message.invariant.goes took.held took.spells c.in-Err.ensures.in_part
 
 pub returns-in-More-clause-waits : goal.returns-in-More-clause-waits
