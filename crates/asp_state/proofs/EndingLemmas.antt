@@ -10,6 +10,8 @@ use Rattle.asp_messages.specs.ReplyText.{reply_text}
 use Rattle.asp_messages.specs.RequestSpelling.{SpellsRequest}
 use Rattle.asp_messages.specs.Stream.{HasNoMessage, IsHopeless}
 use Rattle.asp_messages.proofs.StreamLemmas.{Spelled-append}
+use Rattle.lock_laws.proofs.LawLemmas.{LocksHold-of_legal}
+use Rattle.session_machine.specs.declared.entry.Entry.{Entry}
 use Rattle.session_machine.specs.declared.item.Item.{Item}
 use Rattle.session_machine.specs.History.{nothing}
 use Rattle.shard_core.specs.Standing.{StandsFor}
@@ -29,7 +31,7 @@ use Rattle.asp_state.specs.declared.pipe.End.{End}
 use Rattle.asp_state.specs.declared.pipe.End.TheVariants as ends
 use Rattle.asp_state.specs.PlainRun.{written}
 use Rattle.asp_state.specs.Progress.{ServerState, Progress, GoesOn, GoesInPart, Running, EndsBadly}
-use Rattle.asp_state.specs.Run.{PipeFits, IsRun, EndsAs, IsBroken}
+use Rattle.asp_state.specs.Run.{PipeFits, IsRun, EndsAs, IsBroken, TellsLocks}
 
 -- a run that has taken nothing
 pub Running-start : (CanCount : ℕ → Type 0) (pipe : Pipe) (source : Option (List ℕ × List ℕ)) (sink : Option (List ℕ)) (s : ServerState) → PipeFits pipe
@@ -113,6 +115,11 @@ Running-same CanCount pipe source source' source'' sink sink' s left run gives =
 
 -- ---- endings
 
+-- a history that a keeper stands for gives what locks give
+locks_of : (told : Option (List ℕ → Option Item)) (faults : ℕ) (list : List Entry) → StandsFor nothing 0 list told faults → TellsLocks told list
+locks_of None faults list stands = tt
+locks_of (Some items) faults list stands = LocksHold-of_legal nothing 0 list stands.told_is.0
+
 module _ (CanCount : ℕ → Type 0) (pipe : Pipe) (source source' : Option (List ℕ × List ℕ)) (sink sink' : Option (List ℕ)) (s : ServerState) (left : ℕ)
     (run : Running CanCount pipe source source' sink sink' s left)
   where
@@ -128,6 +135,7 @@ module _ (CanCount : ℕ → Type 0) (pipe : Pipe) (source source' : Option (Lis
       plain = run.progress.plain;
       counts = run.progress.counts;
       stands = run.progress.stands;
+      locks = locks_of s.told s.faults run.progress.list run.progress.stands;
       ends = subst (EndsAs end source' sink sink'' s.held (length run.bytes) pipe.most) run.progress.due_is ends;
     }
 
@@ -170,6 +178,7 @@ ended-write CanCount pipe source source' sink sink' sink'' s s' left run part =
       plain = progress.plain;
       counts = progress.counts;
       stands = progress.stands;
+      locks = locks_of s'.told s'.faults progress.list progress.stands;
       ends = inl (subst (TakesFront sink sink'') progress.due_is (TakesFront-after sink sink' sink'' run.due part.0 run.taken part.1));
     }
 
@@ -186,6 +195,7 @@ ended-unfed CanCount pipe source source' source'' sink sink' piece s left run gi
   plain = run.progress.plain;
   counts = run.progress.counts;
   stands = run.progress.stands;
+  locks = locks_of s.told s.faults run.progress.list run.progress.stands;
   ends = subst (Takes sink sink') run.progress.due_is run.taken;
 }
 
@@ -245,3 +255,17 @@ pub stop-badly : (CanCount : ℕ → Type 0) (pipe : Pipe) (source source' sourc
 stop-badly CanCount pipe source source' source'' sink sink' last s left end run gives ended some none more bad =
     ended-badly CanCount pipe source source'' sink sink' s left (Running-same CanCount pipe source source' source'' sink sink' s left run gives) end last
     (some, inr ended) none more bad
+
+-- the input ended, and all was answered
+pub stop-whole : (CanCount : ℕ → Type 0) (pipe : Pipe) (source source' source'' : Option (List ℕ × List ℕ)) (sink sink' : Option (List ℕ)) (s : ServerState) (left : ℕ)
+    → Running CanCount pipe source source' sink sink' s left → Gives source' source'' [] → IsAtEnd source'' → s.held ≡ [] → 0 < left
+    → IsRun CanCount pipe source source'' sink sink' s.told s.faults ends.Whole
+stop-whole CanCount pipe source source' source'' sink sink' s left run gives ended none more =
+    ended-whole CanCount pipe source source'' sink sink' s left (Running-same CanCount pipe source source' source'' sink sink' s left run gives) ended none more
+
+-- the source failed, and gave nothing
+pub stop-read : (CanCount : ℕ → Type 0) (pipe : Pipe) (source source' source'' : Option (List ℕ × List ℕ)) (sink sink' : Option (List ℕ)) (s : ServerState) (left : ℕ)
+    → Running CanCount pipe source source' sink sink' s left → Gives source' source'' [] → HasNoMessage SpellsRequest s.held → 0 < left
+    → IsRun CanCount pipe source source'' sink sink' s.told s.faults ends.ReadFault
+stop-read CanCount pipe source source' source'' sink sink' s left run gives none more =
+    ended-read CanCount pipe source source'' sink sink' s left (Running-same CanCount pipe source source' source'' sink sink' s left run gives) none more

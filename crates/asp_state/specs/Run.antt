@@ -7,6 +7,7 @@ use Rattle.asp_messages.specs.declared.reply.Reply.TheVariants.{Bad}
 use Rattle.asp_messages.specs.ReplyText.{reply_text}
 use Rattle.asp_messages.specs.RequestSpelling.{SpellsRequest}
 use Rattle.asp_messages.specs.Stream.{Spelled, HasNoMessage, IsHopeless}
+use Rattle.lock_laws.specs.Laws.{LocksHold}
 use Rattle.session_machine.specs.declared.entry.Entry.{Entry}
 use Rattle.session_machine.specs.declared.item.Item.{Item}
 use Rattle.session_machine.specs.History.{nothing}
@@ -50,8 +51,13 @@ status_number WriteFault = 5
 status_number NoMemory = 6
 status_number Long = 7
 
+-- what locks give, where the keeper tells its items
+abbrev pub TellsLocks : Option (List ℕ → Option Item) → List Entry → Type 0
+TellsLocks None list = ⊤
+TellsLocks (Some items) list = LocksHold nothing 0 list
+
 -- A run: the bytes taken are messages and a rest; the entries are a plain run of the messages; the keeper that is handed back has the
--- items and the count after them; and the replies were written as the ending says. (CanCount says which counts of faults the keeper's
+-- items and the count after them; locks hold what they give; and the replies were written as the ending says. (CanCount says which counts of faults the keeper's
 -- type can have; told and faults are what the keeper tells and counts after the run.)
 pub record IsRun (CanCount : ℕ → Type 0) (pipe : Pipe) (source source' : Option (List ℕ × List ℕ)) (sink sink' : Option (List ℕ))
     (told : Option (List ℕ → Option Item)) (faults : ℕ) (end : End) : Type 0 where
@@ -64,6 +70,7 @@ pub record IsRun (CanCount : ℕ → Type 0) (pipe : Pipe) (source source' : Opt
   pub plain : IsPlainRun pipe.start pipe.step pipe.first messages list
   pub counts : AllByRecursion (λ e. CanCount e.faults) list
   pub stands : StandsFor nothing 0 list told faults
+  pub locks : TellsLocks told list
   pub ends : EndsAs end source' sink sink' rest (length bytes) pipe.most (written messages list)
 
 -- the input is whole messages of fewer than so many bytes
