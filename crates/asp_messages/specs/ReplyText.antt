@@ -1,0 +1,69 @@
+-- The canonical text of a reply: the text that is written.
+use Rattle.std.specs.Prelude.{ℕ, List, [], ◌++◌, length, codes, decimal, Option, Some, None, Bool, if◌then◌else◌}
+use Rattle.asp_messages.specs.declared.reply.Reply.{Reply}
+use Rattle.asp_messages.specs.declared.reply.Reply.TheVariants.{Found, Done, Locked, Missing, Bad, KeeperFault, NoMemory, CookiesOut, PlacesOut}
+
+-- a line of a head, with its end
+abbrev pub line : List ℕ → List ℕ
+line text = text ++ codes "\r\n"
+
+-- a field with a number
+abbrev pub number_line : List ℕ → ℕ → List ℕ
+number_line name n = line (name ++ codes ": " ++ decimal n)
+
+-- the line of the cookie that was acquired
+abbrev pub cookie_line : Option ℕ → List ℕ
+cookie_line None = []
+cookie_line (Some cookie) = number_line (codes "LockCookie") cookie
+
+-- the line that tells the first reader of an uninitialised item
+abbrev pub first_line : Bool → List ℕ
+first_line first = if first then line (codes "ActionFlags: 1") else []
+
+-- the lines that end a head: the length of the body, and an empty line
+abbrev pub ending : ℕ → List ℕ
+ending n = number_line (codes "Content-Length") n ++ line []
+
+-- the status line
+abbrev pub status_line : Reply → List ℕ
+status_line (Found body minutes cookie first) = line (codes "HTTP/1.1 200 OK")
+status_line Done = line (codes "HTTP/1.1 200 OK")
+status_line (Locked cookie age) = line (codes "HTTP/1.1 423 Locked")
+status_line Missing = line (codes "HTTP/1.1 404 Not Found")
+status_line Bad = line (codes "HTTP/1.1 400 Bad Request")
+status_line KeeperFault = line (codes "HTTP/1.1 500 Keeper Fault")
+status_line NoMemory = line (codes "HTTP/1.1 503 No Memory")
+status_line CookiesOut = line (codes "HTTP/1.1 507 Cookies Out")
+status_line PlacesOut = line (codes "HTTP/1.1 508 Places Out")
+
+-- the fields between the status line and the length of the body
+abbrev pub reply_fields : Reply → List ℕ
+reply_fields (Found body minutes cookie first) =
+    number_line (codes "Timeout") minutes ++ cookie_line cookie ++ first_line first
+reply_fields (Locked cookie age) = number_line (codes "LockCookie") cookie ++ number_line (codes "LockAge") age
+reply_fields reply = []
+
+-- the content of a reply
+abbrev pub body_of : Reply → List ℕ
+body_of (Found body minutes cookie first) = body
+body_of reply = []
+
+-- the canonical head
+unfoldable pub head_text : Reply → List ℕ
+head_text reply = status_line reply ++ reply_fields reply ++ ending (length (body_of reply))
+
+-- the canonical text
+abbrev pub reply_text : Reply → List ℕ
+reply_text reply = head_text reply ++ body_of reply
+
+-- the number in the status line
+abbrev pub status_number : Reply → ℕ
+status_number (Found body minutes cookie first) = 200
+status_number Done = 200
+status_number (Locked cookie age) = 423
+status_number Missing = 404
+status_number Bad = 400
+status_number KeeperFault = 500
+status_number NoMemory = 503
+status_number CookiesOut = 507
+status_number PlacesOut = 508

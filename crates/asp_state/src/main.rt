@@ -1,0 +1,7 @@
+//! The program `asp_state`: the out-of-process session state of ASP.NET.
+#![tactic(auto)]
+
+mod pipe;
+mod server;
+
+fn main() {}

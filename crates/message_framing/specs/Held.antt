@@ -1,0 +1,41 @@
+-- The bytes that a reader holds, as its callers see it.
+use Rattle.std.specs.Prelude.{◌≡◌, ℕ, ◌+◌, ◌<◌, Bool, true, false, List, [], ◌++◌, length, if◌then◌else◌}
+use Rattle.asp_messages.specs.Fields.{most_body}
+use Rattle.asp_messages.specs.Head.{most_head}
+
+-- A reader: the bytes that it holds, whether it is broken, and whether it may be fed.
+pub record Held : Type 0 where
+  pub held : List ℕ
+  pub is_broken : Bool
+  pub may_feed : Bool
+
+-- the most bytes of a piece
+abbrev pub most_piece : ℕ
+most_piece = 16384
+
+-- the most bytes that a reader holds: a head, a body and a piece
+abbrev pub most_held : ℕ
+most_held = most_head + most_body + most_piece
+
+-- a reader that was fed nothing
+abbrev pub empty_reader : Held
+empty_reader = record { held = []; is_broken = false; may_feed = true }
+
+-- with one piece more; a broken reader keeps nothing
+abbrev pub fed : Held → List ℕ → Held
+fed old piece = record { held = if old.is_broken then [] else old.held ++ piece; is_broken = old.is_broken; may_feed = false }
+
+-- that waits for more bytes
+abbrev pub waiting : Held → Held
+waiting old = record old { may_feed = true }
+
+-- that is broken for good
+abbrev pub broken : Held
+broken = record { held = []; is_broken = true; may_feed = true }
+
+-- Bytes that spell a message were taken from the front of those held, and nothing else changed.
+pub record TakesMessage {M : Type 0} (Spells : List ℕ → M → Type 0) (old new : Held) (m : M) : Type 0 where
+  pub front : List ℕ
+  pub spells : Spells front m
+  pub held : old.held ≡ front ++ new.held
+  pub whole : new.is_broken ≡ old.is_broken

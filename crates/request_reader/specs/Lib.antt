@@ -1,0 +1,2 @@
+pub mod FirstMessage
+pub mod Next

@@ -1,0 +1,4 @@
+pub mod History
+pub mod Liveness
+pub mod Machine
+pub mod Verdicts

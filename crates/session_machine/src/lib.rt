@@ -1,0 +1,11 @@
+//! The rules of one session's item: how long it lives, what each request does to it, and the entries
+//! that a history is made of.
+#![tactic(auto)]
+
+mod decision;
+mod entry;
+mod item;
+
+pub use decision::{Change, Kind, Verdict, decide};
+pub use entry::{Deed, Entry};
+pub use item::{Hold, Item, age, expiry, live};
