@@ -30,7 +30,7 @@ const STATE: usize = 0;
 /// Every place is below this number.
 const END_OF_PLACES: u64 = i64::MAX as u64;
 
-/// How often a caller looks whether its turn has come before it yields its processor.
+/// How often the caller whose turn comes next looks whether it has come, before it yields its processor.
 const LOOKS: u32 = 100;
 
 /// A state that threads have in turn, without a lock.
@@ -95,8 +95,8 @@ impl<S: Stands + Drop> Turnstile<S> {
     /// Takes a ticket, waits until its turn has come, and gives the state. `Spent` comes exactly where the ticket word that the call looked at
     /// stood at the end of places, 2^63 - 1, and for this pass from then on.
     ///
-    /// A caller whose turn has not come looks again. After 100 looks it yields its processor and begins anew, so that more threads than
-    /// processors do not use up each other's time.
+    /// A caller whose turn comes next looks again at once. After 100 looks it yields its processor and begins anew, and a caller behind it
+    /// yields after one look, so that more threads than processors do not use up each other's time.
     pub fn enter<R: Wait>(&self, rt: &R, pass: &mut TurnPass<S>) -> Result<Turn<S>, Spent>
         requires home { pass_home pass.old ≡ turnstile_id self.now }
         requires outside { has_turn pass.old ≡ false }
@@ -175,7 +175,7 @@ impl<S: Stands + Drop> Turnstile<S> {
         unreachable!()
     }
 
-    /// Looks a number of times whether the ticket is served, and takes the state once it is.
+    /// Looks whether the ticket is served, again and again while it is the next one, and takes the state once it is.
     fn look_often(&self, seat: &mut Seat<Option<S>, SeatView<S::Entry>>, ticket: u64) -> Option<S>
         requires home { seat.old.table_id ≡ self.now.table.shared.table_id }
         requires holds { (seat.old.me.0.ticket ≡ Some ticket) × (seat.old.me.0.inside ≡ false) × (seat.old.me.1 ≡ []) }
@@ -189,6 +189,10 @@ impl<S: Stands + Drop> Turnstile<S> {
             let found = shared.load::<Enter<S>>(seat, SERVING);
             if found == ticket {
                 return shared.exchange(seat, STATE, None);
+            }
+            let is_next = found.wrapping_add(1) == ticket;
+            if !is_next {
+                return None;
             }
             spin_loop();
         }

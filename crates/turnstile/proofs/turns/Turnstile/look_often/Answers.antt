@@ -1,5 +1,6 @@
 use Rattle.std.proofs.Common.{rules, ap, ◌∙◌, Some}
-use Rattle.turnstile.proofs.StepsKeepRule.{enters, taken}
+use Rattle.turnstile.proofs.AfterSteps.{taken}
+use Rattle.turnstile.proofs.StepsKeepRule.{enters}
 use Rattle.turnstile.proofs.turns.Turnstile.look_often.Goals as goal
 
 pub load-found-requires : goal.load-found-requires
