@@ -1,0 +1,154 @@
+-- How a visit stands for its past. Nothing above needs more of this than the name `HasPast`: the calls make it hold, and
+-- what it is good for is said by what they ensure.
+use Rattle.std.specs.Prelude.{◌≡◌, ℕ, ◌+◌, ◌<◌, ◌^◌, List, reverse, Option, Some, None, IfSome, Bool, true, false, nat_le, nat_lt, if◌then◌else◌, ⊤}
+use Rattle.asp_messages.specs.declared.request.Request.{Request}
+use Rattle.asp_messages.specs.declared.request.Ask.{Ask}
+use Rattle.asp_messages.specs.declared.request.Ask.TheVariants.{Read, Acquire, Release, Write, Remove, Reset}
+use Rattle.asp_messages.specs.declared.reply.Reply.TheVariants.{Found, Done as done_reply, Locked, Missing}
+use Rattle.asp_messages.specs.ReplyText.{status_number}
+use Rattle.asp_messages.specs.Ranges.{BodyFits, CookieFits, RequestFits}
+use Rattle.visit_core.specs.declared.terms.Limits.{Limits}
+use Rattle.visit_core.specs.declared.act.Ending.{Ending as PageEnding}
+use Rattle.visit_core.specs.declared.act.Heard.{Heard}
+use Rattle.visit_core.specs.declared.act.Heard.TheVariants.{Reply, Strange}
+use Rattle.visit_core.specs.declared.outcome.Outcome.TheVariants.{Done, LostLocked, LostMissing, GaveUp, LinkFault, Refused}
+use Rattle.visit_core.specs.declared.stage.Stage.{Stage}
+use Rattle.visit_core.specs.declared.stage.Stage.TheVariants.{Asking, Forcing, Running, Ending, Over}
+use Rattle.visit_core.specs.Acts.{Action, send, wait_until, run, over}
+use Rattle.visit_core.specs.Terms.{Terms, LimitsFit, EndingFits, HeardFits}
+use Rattle.visit_core.specs.Rule.{Event, sends, ask_of, act_of, ending_ask, locked_answers, has_ended, own_cookie, IsLawful, IsRun}
+
+-- A visit: its terms, what it asks where its stage asks, how many asks for the session met a lock, and its stage.
+pub record Progress : Type 0 where
+  pub terms : Terms
+  pub ask : Ask
+  pub locked : ℕ
+  pub stage : Stage
+
+-- what a stage does
+abbrev pub stage_act : Terms → Ask → Stage → ℕ → Action
+stage_act terms ask (Asking from) t = if nat_lt t from then wait_until from else sends terms ask
+stage_act terms ask Forcing t = sends terms ask
+stage_act terms ask (Running content first cookie) t = run content first
+stage_act terms ask Ending t = sends terms ask
+stage_act terms ask (Over outcome) t = over outcome
+
+-- ---- what keeps a visit in range
+
+abbrev pub StageFits : ℕ → ℕ → Stage → Type 0
+StageFits locked polls (Asking from) = locked < polls
+StageFits locked polls Forcing = locked < polls
+StageFits locked polls (Running content first cookie) = IfSome content BodyFits × CookieFits cookie
+StageFits locked polls Ending = ⊤
+StageFits locked polls (Over outcome) = ⊤
+
+pub record IsSound (request : Request) (limits : Limits) (locked : ℕ) (stage : Stage) : Type 0 where
+  pub request_fits : RequestFits request
+  pub limits_fit : LimitsFit limits
+  pub stage_fits : StageFits locked limits.polls stage
+
+-- ---- how a visit stands for its past
+
+-- what a stage knows of the past, which has its latest event first
+abbrev pub Knows : Terms → Ask → ℕ → Stage → List Event → Type 0
+Knows terms ask locked (Asking from) past =
+    (ask ≡ ask_of terms.need) × (locked_answers past ≡ locked) × (has_ended past ≡ false) × (own_cookie past ≡ None)
+Knows terms ask locked Forcing past =
+    ((cookie : ℕ) × (ask ≡ Release cookie)) × (locked_answers past ≡ locked) × (has_ended past ≡ false) × (own_cookie past ≡ None)
+Knows terms ask locked (Running content first cookie) past = own_cookie past ≡ cookie
+Knows terms ask locked Ending past = has_ended past ≡ true
+Knows terms ask locked (Over outcome) past = ⊤
+
+-- The calls of this past lead to this visit: the past is lawful, and the visit acts by its rule.
+pub record HasPast (visit : Progress) (past : List Event) : Type 0 where
+  pub lawful : IsLawful visit.terms past
+  pub acts : (t : ℕ) → act_of visit.terms past t ≡ stage_act visit.terms visit.ask visit.stage t
+  pub knows : Knows visit.terms visit.ask visit.locked visit.stage (reverse past)
+
+-- The visit sends a request at this moment.
+pub record Sends (visit : Progress) (t : ℕ) : Type 0 where
+  pub past : List Event
+  pub request : Request
+  pub has_past : HasPast visit past
+  pub sent : act_of visit.terms past t ≡ send request
+
+-- The page is to run.
+pub record Runs (visit : Progress) : Type 0 where
+  pub past : List Event
+  pub t : ℕ
+  pub has_past : HasPast visit past
+  pub runs : IsRun (act_of visit.terms past t)
+
+-- ---- what the calls make of a visit
+
+-- the session is asked for from this moment on
+abbrev pub asks_from : Progress → ℕ → Progress
+asks_from visit from = record visit { ask = ask_of visit.terms.need; stage = Asking from }
+
+abbrev pub refused : Heard → Stage
+refused (Reply reply) = Over (Refused (status_number reply))
+refused (Strange status) = Over (Refused status)
+
+-- an ask for the session met a lock
+abbrev pub meets_lock : Progress → ℕ → ℕ → ℕ → Progress
+meets_lock visit t cookie age =
+    if nat_le visit.terms.limits.polls (visit.locked + 1)
+    then record visit { locked = visit.locked + 1; stage = Over (GaveUp cookie age) }
+    else (if nat_lt visit.terms.limits.execution_secs age
+    then record visit { locked = visit.locked + 1; ask = Release cookie; stage = Forcing }
+    else record visit { locked = visit.locked + 1; stage = Asking (t + visit.terms.limits.poll_ms) })
+
+abbrev pub acquired : List ℕ → Bool → Option ℕ → Stage
+acquired body first None = Over (Refused 200)
+acquired body first (Some cookie) = Running (Some body) first (Some cookie)
+
+-- where an answer to an ask for the session leads, unless a lock is in the way
+abbrev pub answered : Ask → Heard → Stage
+answered Acquire (Reply (Found body minutes cookie first)) = acquired body first cookie
+answered Acquire (Reply Missing) = Running None false None
+answered Read (Reply (Found body minutes cookie first)) = Running (Some body) first None
+answered Read (Reply Missing) = Running None false None
+answered Reset (Reply done_reply) = Over Done
+answered Reset (Reply Missing) = Over Done
+answered ask answer = refused answer
+
+abbrev pub hears_answer : Progress → ℕ → Ask → Heard → Progress
+hears_answer visit t Acquire (Reply (Locked cookie age)) = meets_lock visit t cookie age
+hears_answer visit t Read (Reply (Locked cookie age)) = meets_lock visit t cookie age
+hears_answer visit t ask answer = record visit { stage = answered ask answer }
+
+abbrev pub hears_release : Progress → Heard → Progress
+hears_release visit (Reply done_reply) = asks_from visit 0
+hears_release visit (Reply Missing) = asks_from visit 0
+hears_release visit (Reply (Locked cookie age)) = asks_from visit 0
+hears_release visit answer = record visit { stage = refused answer }
+
+abbrev pub end_answered : Heard → Stage
+end_answered (Reply done_reply) = Over Done
+end_answered (Reply Missing) = Over LostMissing
+end_answered (Reply (Locked cookie age)) = Over (LostLocked cookie age)
+end_answered answer = refused answer
+
+-- an answer, by the stage that sent its request
+abbrev pub hears : Progress → ℕ → Stage → Heard → Progress
+hears visit t (Asking from) answer = hears_answer visit t visit.ask answer
+hears visit t Forcing answer = hears_release visit answer
+hears visit t Ending answer = record visit { stage = end_answered answer }
+hears visit t (Running content first cookie) answer = visit
+hears visit t (Over outcome) answer = visit
+
+abbrev pub tells : Progress → Option Ask → Progress
+tells visit None = record visit { stage = Over Done }
+tells visit (Some ask) = record visit { ask = ask; stage = Ending }
+
+abbrev pub stage_cookie : Stage → Option ℕ
+stage_cookie (Running content first cookie) = cookie
+stage_cookie stage = None
+
+-- the page ends
+abbrev pub finishes : Progress → PageEnding → Progress
+finishes visit ending = tells visit (ending_ask visit.terms.need (stage_cookie visit.stage) ending)
+
+abbrev pub lost_stage : Stage → Stage
+lost_stage (Over outcome) = Over outcome
+lost_stage stage = Over LinkFault

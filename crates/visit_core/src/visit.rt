@@ -1,0 +1,174 @@
+//! A visit, from its first ask to its outcome.
+ghost use Rattle.std.specs.Prelude.{◌≡◌, ◌≤◌, ◌<◌, ◌^◌, ℕ, ◌++◌, ◌∷◌, [], List};
+ghost use Rattle.asp_messages.specs.Ranges.{KeyFits};
+ghost use Rattle.asp_messages.specs.declared.request.Request.{Request};
+ghost use Rattle.visit_core.specs.Terms.{Terms, LimitsFit, EndingFits, HeardFits};
+ghost use Rattle.visit_core.specs.Acts.{action_of, send, ActFits};
+ghost use Rattle.visit_core.specs.Rule.{Event, heard, ended, lost, act_of};
+ghost use Rattle.visit_core.specs.Stages.{HasPast, Sends, Runs, meets_lock, hears_answer, hears_release, hears, finishes, lost_stage};
+
+use crate::stage::Stage;
+use crate::{Act, Ending, Heard, Limits, Need, Outcome};
+use asp_base::Bytes;
+use asp_messages::{Ask, Reply, Request};
+use std::marker::Model;
+
+/// One page's visit to the state server. It tells at each moment what to do next, and is told what
+/// was heard, how the page ended, and that the link was lost. Contracts tie it to its past, the list
+/// of these events.
+#[derive(Debug, Drop)]
+pub struct Visit {
+    request: Request,
+    need: Need,
+    limits: Limits,
+    locked: u64,
+    stage: Stage,
+}
+
+impl Model for Visit {
+    ghost use Rattle.visit_core.specs.Stages.{Progress, IsSound};
+
+    ghost Value = { Progress };
+
+    ghost view = { λ v. record { terms = record { key = v.request.key; need = v.need; limits = v.limits }; ask = v.request.ask; locked = v.locked; stage = v.stage } };
+
+    ghost invariant = { λ v. IsSound v.request v.limits v.locked v.stage };
+}
+
+impl Visit {
+    /// A visit that has not begun: `key` is the session's, 1 to 1,024 bytes.
+    pub fn new(key: Bytes, need: Need, limits: Limits) -> Visit
+        requires key { KeyFits key }
+        requires limits { LimitsFit limits }
+        ensures terms { result.terms ≡ record { key = key; need = need; limits = limits } }
+        ensures past { HasPast result [] }
+    {
+        Visit {
+            request: Request {
+                key,
+                ask: need.ask(),
+            },
+            need,
+            limits,
+            locked: 0,
+            stage: Stage::Asking { from: 0 },
+        }
+    }
+
+    /// What to do at the moment `t`, in milliseconds.
+    pub fn next(&self, t: u64) -> Act<'_>
+        ensures act { (past : List Event) → HasPast self.now past → action_of result ≡ act_of self.now.terms past t }
+        ensures in_range { ActFits (action_of result) }
+    {
+        match &self.stage {
+            Stage::Asking { from } if t < *from => Act::WaitUntil(*from),
+            Stage::Asking { .. } | Stage::Forcing | Stage::Ending => Act::Send(&self.request),
+            Stage::Running { content, first, .. } => Act::Run {
+                content: content.as_ref(),
+                first: *first,
+            },
+            Stage::Over(outcome) => Act::Over(outcome),
+        }
+    }
+
+    fn meet_lock(&mut self, t: u64, cookie: u64, age: u64)
+        requires moment { t ≤ 2 ^ 62 }
+        requires cookie_fits { cookie < 2 ^ 63 }
+        requires asking { (from : ℕ) × (self.old.stage ≡ Stage.Asking from) }
+        ensures { self.new ≡ meets_lock self.old t cookie age }
+    {
+        self.locked += 1;
+        if self.locked >= self.limits.polls {
+            self.stage = Stage::Over(Outcome::GaveUp { cookie, age });
+        } else if age > self.limits.execution_secs {
+            self.request.ask = Ask::Release { cookie };
+            self.stage = Stage::Forcing;
+        } else {
+            self.stage = Stage::Asking {
+                from: t + self.limits.poll_ms,
+            };
+        }
+    }
+
+    fn hear_answer(&mut self, t: u64, answer: Heard)
+        requires moment { t ≤ 2 ^ 62 }
+        requires fits { HeardFits answer }
+        requires asking { (from : ℕ) × (self.old.stage ≡ Stage.Asking from) }
+        ensures { self.new ≡ hears_answer self.old t self.old.ask answer }
+    {
+        match (&self.request.ask, &answer) {
+            (Ask::Acquire | Ask::Read, Heard::Reply(Reply::Locked { cookie, age })) => {
+                self.meet_lock(t, *cookie, *age)
+            }
+            (ask, _) => self.stage = Stage::answered(ask, answer),
+        }
+    }
+
+    fn hear_release(&mut self, answer: Heard)
+        requires { self.old.stage ≡ Stage.Forcing }
+        ensures { self.new ≡ hears_release self.old answer }
+    {
+        match answer {
+            Heard::Reply(Reply::Done | Reply::Missing | Reply::Locked { .. }) => {
+                self.request.ask = self.need.ask();
+                self.stage = Stage::Asking { from: 0 };
+            }
+            answer => self.stage = Stage::refused(answer),
+        }
+    }
+
+    fn hear(&mut self, t: u64, answer: Heard)
+        requires moment { t ≤ 2 ^ 62 }
+        requires fits { HeardFits answer }
+        ensures { self.new ≡ hears self.old t self.old.stage answer }
+    {
+        match self.stage {
+            Stage::Asking { .. } => self.hear_answer(t, answer),
+            Stage::Forcing => self.hear_release(answer),
+            Stage::Ending => self.stage = Stage::end_answered(answer),
+            Stage::Running { .. } | Stage::Over(_) => {}
+        }
+    }
+
+    /// Hears at the moment `t`, in milliseconds, the answer to the request that the visit sends then.
+    pub fn heard(&mut self, t: u64, answer: Heard)
+        requires moment { t ≤ 2 ^ 62 }
+        requires sent { Sends self.old t }
+        requires fits { HeardFits answer }
+        ensures terms { self.new.terms ≡ self.old.terms }
+        ensures past { (past : List Event) (request : Request) → HasPast self.old past → act_of self.old.terms past t ≡ send request → HasPast self.new (past ++ heard t request answer ∷ []) }
+    {
+        self.hear(t, answer);
+    }
+
+    /// The link to the state server is lost. A visit that is over keeps its outcome.
+    pub fn lost_link(&mut self)
+        ensures terms { self.new.terms ≡ self.old.terms }
+        ensures past { (past : List Event) → HasPast self.old past → HasPast self.new (past ++ lost ∷ []) }
+    {
+        match self.stage {
+            Stage::Over(_) => {}
+            _ => self.stage = Stage::Over(Outcome::LinkFault),
+        }
+    }
+
+    /// The page, which was to run, ends.
+    pub fn finish(&mut self, ending: Ending)
+        requires runs { Runs self.old }
+        requires fits { EndingFits ending }
+        ensures terms { self.new.terms ≡ self.old.terms }
+        ensures past { (past : List Event) → HasPast self.old past → HasPast self.new (past ++ ended ending ∷ []) }
+    {
+        let own = match self.stage {
+            Stage::Running { cookie, .. } => cookie,
+            _ => None,
+        };
+        match ending.ask(self.need, own) {
+            None => self.stage = Stage::Over(Outcome::Done),
+            Some(ask) => {
+                self.request.ask = ask;
+                self.stage = Stage::Ending;
+            }
+        }
+    }
+}
