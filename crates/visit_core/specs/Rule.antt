@@ -35,7 +35,7 @@ is_locked_ask ask answer = false
 abbrev pub locked_answers : List Event → ℕ
 locked_answers [] = 0
 locked_answers (heard t request answer ∷ past) =
-    (if is_locked_ask request.ask answer then 1 else 0) + locked_answers past
+    if is_locked_ask request.ask answer then locked_answers past + 1 else locked_answers past
 locked_answers (ended ending ∷ past) = locked_answers past
 locked_answers (lost ∷ past) = locked_answers past
 

@@ -1,6 +1,6 @@
 -- How a visit stands for its past. Nothing above needs more of this than the name `HasPast`: the calls make it hold, and
 -- what it is good for is said by what they ensure.
-use Rattle.std.specs.Prelude.{◌≡◌, ℕ, ◌+◌, ◌<◌, ◌^◌, List, reverse, Option, Some, None, IfSome, Bool, true, false, nat_le, nat_lt, if◌then◌else◌, ⊤}
+use Rattle.std.specs.Prelude.{◌≡◌, ℕ, ◌+◌, ◌<◌, ◌≤◌, ◌^◌, List, reverse, Option, Some, None, IfSome, Bool, true, false, nat_le, nat_lt, if◌then◌else◌, ⊤}
 use Rattle.asp_messages.specs.declared.request.Request.{Request}
 use Rattle.asp_messages.specs.declared.request.Ask.{Ask}
 use Rattle.asp_messages.specs.declared.request.Ask.TheVariants.{Read, Acquire, Release, Write, Remove, Reset}
@@ -12,6 +12,7 @@ use Rattle.visit_core.specs.declared.act.Ending.{Ending as PageEnding}
 use Rattle.visit_core.specs.declared.act.Heard.{Heard}
 use Rattle.visit_core.specs.declared.act.Heard.TheVariants.{Reply, Strange}
 use Rattle.visit_core.specs.declared.outcome.Outcome.TheVariants.{Done, LostLocked, LostMissing, GaveUp, LinkFault, Refused}
+use Rattle.visit_core.specs.declared.stage.Lock.{Lock}
 use Rattle.visit_core.specs.declared.stage.Stage.{Stage}
 use Rattle.visit_core.specs.declared.stage.Stage.TheVariants.{Asking, Forcing, Running, Ending, Over}
 use Rattle.visit_core.specs.Acts.{Action, send, wait_until, run, over}
@@ -89,14 +90,28 @@ abbrev pub refused : Heard → Stage
 refused (Reply reply) = Over (Refused (status_number reply))
 refused (Strange status) = Over (Refused status)
 
--- an ask for the session met a lock
-abbrev pub meets_lock : Progress → ℕ → ℕ → ℕ → Progress
-meets_lock visit t cookie age =
-    if nat_le visit.terms.limits.polls (visit.locked + 1)
-    then record visit { locked = visit.locked + 1; stage = Over (GaveUp cookie age) }
-    else (if nat_lt visit.terms.limits.execution_secs age
-    then record visit { locked = visit.locked + 1; ask = Release cookie; stage = Forcing }
-    else record visit { locked = visit.locked + 1; stage = Asking (t + visit.terms.limits.poll_ms) })
+-- a lock's cookie and age are in their ranges
+abbrev pub LockFits : Lock → Type 0
+LockFits lock = (lock.cookie < 2 ^ 63) × (lock.age ≤ 2 ^ 62)
+
+-- the lock that the answer to an ask for the session names
+abbrev pub lock_met : Ask → Heard → Option Lock
+lock_met Acquire (Reply (Locked cookie age)) = Some (record { cookie = cookie; age = age })
+lock_met Read (Reply (Locked cookie age)) = Some (record { cookie = cookie; age = age })
+lock_met ask answer = None
+
+-- an ask for the session met a lock: the polls are used up, or the lock is too old, or the visit waits
+abbrev pub meets_lock_if : Bool → Bool → Progress → ℕ → Lock → Progress
+meets_lock_if true is_old visit t lock =
+    record visit { locked = visit.locked + 1; stage = Over (GaveUp lock.cookie lock.age) }
+meets_lock_if false true visit t lock =
+    record visit { locked = visit.locked + 1; ask = Release lock.cookie; stage = Forcing }
+meets_lock_if false false visit t lock =
+    record visit { locked = visit.locked + 1; stage = Asking (t + visit.terms.limits.poll_ms) }
+
+abbrev pub meets_lock : Progress → ℕ → Lock → Progress
+meets_lock visit t lock =
+    meets_lock_if (nat_le visit.terms.limits.polls (visit.locked + 1)) (nat_lt visit.terms.limits.execution_secs lock.age) visit t lock
 
 abbrev pub acquired : List ℕ → Bool → Option ℕ → Stage
 acquired body first None = Over (Refused 200)
@@ -112,10 +127,9 @@ answered Reset (Reply done_reply) = Over Done
 answered Reset (Reply Missing) = Over Done
 answered ask answer = refused answer
 
-abbrev pub hears_answer : Progress → ℕ → Ask → Heard → Progress
-hears_answer visit t Acquire (Reply (Locked cookie age)) = meets_lock visit t cookie age
-hears_answer visit t Read (Reply (Locked cookie age)) = meets_lock visit t cookie age
-hears_answer visit t ask answer = record visit { stage = answered ask answer }
+abbrev pub hears_answer : Progress → ℕ → Heard → Option Lock → Progress
+hears_answer visit t answer (Some lock) = meets_lock visit t lock
+hears_answer visit t answer None = record visit { stage = answered visit.ask answer }
 
 abbrev pub hears_release : Progress → Heard → Progress
 hears_release visit (Reply done_reply) = asks_from visit 0
@@ -131,7 +145,7 @@ end_answered answer = refused answer
 
 -- an answer, by the stage that sent its request
 abbrev pub hears : Progress → ℕ → Stage → Heard → Progress
-hears visit t (Asking from) answer = hears_answer visit t visit.ask answer
+hears visit t (Asking from) answer = hears_answer visit t answer (lock_met visit.ask answer)
 hears visit t Forcing answer = hears_release visit answer
 hears visit t Ending answer = record visit { stage = end_answered answer }
 hears visit t (Running content first cookie) answer = visit

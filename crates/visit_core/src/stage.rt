@@ -1,6 +1,7 @@
 //! How far a visit has come, and where an answer leads.
-ghost use Rattle.std.specs.Prelude.{◌≡◌};
-ghost use Rattle.visit_core.specs.Stages.{acquired, answered, end_answered, refused};
+ghost use Rattle.std.specs.Prelude.{◌≡◌, IfSome};
+ghost use Rattle.visit_core.specs.Terms.{HeardFits};
+ghost use Rattle.visit_core.specs.Stages.{LockFits, lock_met, acquired, answered, end_answered, refused};
 
 use crate::{Heard, Outcome};
 use asp_base::Bytes;
@@ -25,6 +26,31 @@ pub(crate) enum Stage {
     Ending,
     /// The visit is over.
     Over(Outcome),
+}
+
+/// A lock that is in the way of an ask for the session.
+#[derive(Clone, Copy, Debug)]
+pub(crate) struct Lock {
+    pub(crate) cookie: u64,
+    /// How long it has been held, in seconds.
+    pub(crate) age: u64,
+}
+
+impl Lock {
+    /// The lock that the answer to this ask names.
+    pub(crate) fn met(ask: &Ask, answer: &Heard) -> Option<Lock>
+        requires { HeardFits answer.now }
+        ensures lock { result ≡ lock_met ask.now answer.now }
+        ensures fits { IfSome result LockFits }
+    {
+        match (ask, answer) {
+            (Ask::Acquire | Ask::Read, Heard::Reply(Reply::Locked { cookie, age })) => Some(Lock {
+                cookie: *cookie,
+                age: *age,
+            }),
+            _ => None,
+        }
+    }
 }
 
 impl Stage {

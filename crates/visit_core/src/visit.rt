@@ -5,9 +5,9 @@ ghost use Rattle.asp_messages.specs.declared.request.Request.{Request};
 ghost use Rattle.visit_core.specs.Terms.{Terms, LimitsFit, EndingFits, HeardFits};
 ghost use Rattle.visit_core.specs.Acts.{action_of, send, ActFits};
 ghost use Rattle.visit_core.specs.Rule.{Event, heard, ended, lost, act_of};
-ghost use Rattle.visit_core.specs.Stages.{HasPast, Sends, Runs, meets_lock, hears_answer, hears_release, hears, finishes, lost_stage};
+ghost use Rattle.visit_core.specs.Stages.{HasPast, Sends, Runs, LockFits, lock_met, answered, meets_lock, hears_answer, hears_release, hears, finishes, lost_stage};
 
-use crate::stage::Stage;
+use crate::stage::{Lock, Stage};
 use crate::{Act, Ending, Heard, Limits, Need, Outcome};
 use asp_base::Bytes;
 use asp_messages::{Ask, Reply, Request};
@@ -71,12 +71,13 @@ impl Visit {
         }
     }
 
-    fn meet_lock(&mut self, t: u64, cookie: u64, age: u64)
+    fn meet_lock(&mut self, t: u64, lock: Lock)
         requires moment { t ≤ 2 ^ 62 }
-        requires cookie_fits { cookie < 2 ^ 63 }
+        requires lock { LockFits lock }
         requires asking { (from : ℕ) × (self.old.stage ≡ Stage.Asking from) }
-        ensures { self.new ≡ meets_lock self.old t cookie age }
+        ensures { self.new ≡ meets_lock self.old t lock }
     {
+        let Lock { cookie, age } = lock;
         self.locked += 1;
         if self.locked >= self.limits.polls {
             self.stage = Stage::Over(Outcome::GaveUp { cookie, age });
@@ -90,17 +91,22 @@ impl Visit {
         }
     }
 
+    fn meet_none(&mut self, answer: Heard)
+        requires { HeardFits answer }
+        ensures { self.new ≡ record self.old { stage = answered self.old.ask answer } }
+    {
+        self.stage = Stage::answered(&self.request.ask, answer);
+    }
+
     fn hear_answer(&mut self, t: u64, answer: Heard)
         requires moment { t ≤ 2 ^ 62 }
         requires fits { HeardFits answer }
         requires asking { (from : ℕ) × (self.old.stage ≡ Stage.Asking from) }
-        ensures { self.new ≡ hears_answer self.old t self.old.ask answer }
+        ensures { self.new ≡ hears_answer self.old t answer (lock_met self.old.ask answer) }
     {
-        match (&self.request.ask, &answer) {
-            (Ask::Acquire | Ask::Read, Heard::Reply(Reply::Locked { cookie, age })) => {
-                self.meet_lock(t, *cookie, *age)
-            }
-            (ask, _) => self.stage = Stage::answered(ask, answer),
+        match Lock::met(&self.request.ask, &answer) {
+            Some(lock) => self.meet_lock(t, lock),
+            None => self.meet_none(answer),
         }
     }
 
