@@ -17,7 +17,7 @@ use Rattle.visit_core.specs.declared.stage.Stage.{Stage}
 use Rattle.visit_core.specs.declared.stage.Stage.TheVariants.{Asking, Forcing, Running, Ending, Over}
 use Rattle.visit_core.specs.Acts.{Action, send, wait_until, run, over}
 use Rattle.visit_core.specs.Terms.{Terms, HeardFits}
-use Rattle.visit_core.specs.Rule.{Event, sends, after_locked, heard, ended, lost, act_of, act_after, ask_of, EachFollows, MayFollow, locked_answers, has_ended, own_cookie}
+use Rattle.visit_core.specs.Rule.{Event, send_ask, after_locked, heard, ended, lost, act_of, act_after, ask_of, EachFollows, MayFollow, locked_answers, has_ended, own_cookie}
 use Rattle.visit_core.specs.Stages.{Progress, meets_lock, meets_lock_if, end_answered, HasPast, Knows, stage_act, hears, hears_answer, hears_release, lock_met}
 
 -- one more event, behind the others
@@ -31,8 +31,11 @@ locked-acts visit t lock u e = grind (arith, common_steps)
 
 locked-knows : (visit : Progress) (t : ℕ) (lock : Lock) (past : List Event) → visit.ask ≡ ask_of visit.terms.need → locked_answers past ≡ visit.locked + 1 → has_ended past ≡ false → own_cookie past ≡ None → Knows (meets_lock visit t lock).terms (meets_lock visit t lock).ask (meets_lock visit t lock).locked (meets_lock visit t lock).stage past
 locked-knows visit t lock past e n not_ended none =
-    elim (nat_le visit.terms.limits.polls (visit.locked + 1)) as (λ b. let v : Progress = meets_lock_if b (nat_lt visit.terms.limits.execution_secs lock.age) visit t lock in Knows v.terms v.ask v.locked v.stage past) [ true ↦ tt | false ↦
-    elim (nat_lt visit.terms.limits.execution_secs lock.age) as (λ b. let v : Progress = meets_lock_if false b visit t lock in Knows v.terms v.ask v.locked v.stage past) [ true ↦ ((lock.cookie, refl), n, not_ended, none) | false ↦ (e, n, not_ended, none) ] ]
+    elim (nat_le visit.terms.limits.polls (visit.locked + 1)) as (λ b. let v : Progress = meets_lock_if b (nat_lt visit.terms.limits.execution_secs lock.age) visit t lock in Knows v.terms v.ask v.locked v.stage past) [
+      | true ↦ tt
+      | false ↦
+          elim (nat_lt visit.terms.limits.execution_secs lock.age) as (λ b. let v : Progress = meets_lock_if false b visit t lock in Knows v.terms v.ask v.locked v.stage past) [ true ↦ ((lock.cookie, refl), n, not_ended, none) | false ↦ (e, n, not_ended, none) ]
+    ]
 
 -- the answer to an ask for the session
 asked-acts : (key : List ℕ) (need : Need) (limits : Limits) (locked from t : ℕ) (answer : Heard) (past : List Event) → has_ended past ≡ false → locked_answers past ≡ locked → (u : ℕ) →
@@ -67,7 +70,7 @@ asked-knows key Off limits locked from t (Reply done_reply) past e n none = tt
 asked-knows key Off limits locked from t (Reply Missing) past e n none = tt
 asked-knows key Off limits locked from t answer past e n none = tt
 
-asking-now : (terms : Terms) (ask : Ask) (t : ℕ) → stage_act terms ask (Asking 0) t ≡ sends terms ask
+asking-now : (terms : Terms) (ask : Ask) (t : ℕ) → stage_act terms ask (Asking 0) t ≡ send_ask terms ask
 asking-now terms ask t = grind (arith, common_steps)
 
 -- the answer to a forced release
@@ -118,7 +121,7 @@ forced-terms visit answer = refl
 
 -- what a visit sends that asks for the session
 asking-sends : (terms : Terms) (ask : Ask) (from t : ℕ) (request : Request) → stage_act terms ask (Asking from) t ≡ send request → request ≡ record { key = terms.key; ask = ask }
-asking-sends terms ask from t request e = grind (arith, common_steps)
+asking-send_ask terms ask from t request e = grind (arith, common_steps)
 
 send-inj : (a b : Request) → send a ≡ send b → b ≡ a
 send-inj a b e = cc
@@ -129,7 +132,7 @@ pub HasPast-heard : (terms : Terms) (ask : Ask) (locked : ℕ) (stage : Stage) (
     HasPast visit past → act_of terms past t ≡ send request → HasPast (hears visit t stage answer) (past ++ heard t request answer ∷ []))
 HasPast-heard terms ask locked (Asking from) t answer past request fits h sent =
     let k : Knows terms ask locked (Asking from) (reverse past) = h.knows in
-    let is_request : request ≡ record { key = terms.key; ask = ask } = asking-sends terms ask from t request (sym (h.acts t) ∙ sent) in
+    let is_request : request ≡ record { key = terms.key; ask = ask } = asking-send_ask terms ask from t request (sym (h.acts t) ∙ sent) in
     let same : request ≡ record { key = terms.key; ask = ask_of terms.need } = rw k.0 at is_request in
     rw (same, k.0) (HasPast-push _ terms past _ (asked-terms _ t answer _) ((rw same at sent, fits), h.lawful) (asked-acts terms.key terms.need terms.limits locked from t answer (reverse past) k.2 k.1) (asked-knows terms.key terms.need terms.limits locked from t answer (reverse past) k.2 k.1 k.3))
 HasPast-heard terms ask locked Forcing t answer past request fits h sent =
@@ -137,7 +140,7 @@ HasPast-heard terms ask locked Forcing t answer past request fits h sent =
     let is_request : request ≡ record { key = terms.key; ask = ask } = send-inj _ _ (sym (h.acts t) ∙ sent) in
     let same : request ≡ record { key = terms.key; ask = Release k.0.0 } = rw k.0.1 at is_request in
     rw (same, k.0.1) (HasPast-push _ terms past _ (forced-terms (record { terms = terms; ask = Release k.0.0; locked = locked; stage = Forcing }) answer) ((rw same at sent, fits), h.lawful) (forced-acts terms locked k.0.0 t answer (reverse past) k.2) (forced-knows terms locked k.0.0 t answer (reverse past) k.1 k.2 k.3))
-HasPast-heard terms ask locked (Running content first cookie) t answer past request fits h sent = 
+HasPast-heard terms ask locked (Running content first cookie) t answer past request fits h sent =
     let e : run content first ≡ send request = sym (h.acts t) ∙ sent in absurd cc
 HasPast-heard terms ask locked Ending t answer past request fits h sent =
     HasPast-push _ terms past _ refl ((sent, fits), h.lawful) (end-acts terms ask request t answer (reverse past) h.knows) (end-knows terms ask locked answer _)

@@ -1,7 +1,7 @@
 -- The rule of a visit: what it does next is fixed by its past, which is a list of events and no state. (Polling, the
 -- forced release and the requests at a page's end are those of ASP.NET's SessionStateModule; the limit on polls, the
 -- outcomes, and what follows the answers that its documentation leaves open are this project's own.)
-use Rattle.std.specs.Prelude.{◌≡◌, ℕ, ◌+◌, List, [], ◌∷◌, reverse, Option, Some, None, Bool, true, false, ◌||◌, nat_le, nat_lt, if◌then◌else◌, ⊤}
+use Rattle.std.specs.Prelude.{◌≡◌, ◌≢◌, ℕ, ◌+◌, ◌<◌, List, [], ◌∷◌, ◌++◌, reverse, Option, Some, None, Bool, true, false, nat_le, nat_lt, if◌then◌else◌, ⊤}
 use Rattle.asp_messages.specs.declared.request.Request.{Request}
 use Rattle.asp_messages.specs.declared.request.Ask.{Ask}
 use Rattle.asp_messages.specs.declared.request.Ask.TheVariants.{Read, Acquire, Release, Write, Remove, Reset}
@@ -65,8 +65,8 @@ own_cookie (lost ∷ past) = own_cookie past
 -- ---- what follows an event
 
 -- a request for the visit's session is sent
-abbrev pub sends : Terms → Ask → Action
-sends terms ask = send (record { key = terms.key; ask = ask })
+abbrev pub send_ask : Terms → Ask → Action
+send_ask terms ask = send (record { key = terms.key; ask = ask })
 
 -- the session is asked for: under its lock, without it, or only that it live on
 abbrev pub ask_of : Need → Ask
@@ -86,10 +86,10 @@ after_locked terms count u cookie age t =
     if nat_le terms.limits.polls count
     then over (GaveUp cookie age)
     else (if nat_lt terms.limits.execution_secs age
-    then sends terms (Release cookie)
+    then send_ask terms (Release cookie)
     else (if nat_lt t (u + terms.limits.poll_ms)
     then wait_until (u + terms.limits.poll_ms)
-    else sends terms (ask_of terms.need)))
+    else send_ask terms (ask_of terms.need)))
 
 -- an answer before the page's end
 abbrev pub after_answer : Terms → ℕ → ℕ → Ask → Heard → ℕ → Action
@@ -101,9 +101,9 @@ after_answer terms count u Read (Reply Missing) t = run None false
 after_answer terms count u Read (Reply (Locked cookie age)) t = after_locked terms count u cookie age t
 after_answer terms count u Reset (Reply done_reply) t = over Done
 after_answer terms count u Reset (Reply Missing) t = over Done
-after_answer terms count u (Release own) (Reply done_reply) t = sends terms (ask_of terms.need)
-after_answer terms count u (Release own) (Reply Missing) t = sends terms (ask_of terms.need)
-after_answer terms count u (Release own) (Reply (Locked cookie age)) t = sends terms (ask_of terms.need)
+after_answer terms count u (Release own) (Reply done_reply) t = send_ask terms (ask_of terms.need)
+after_answer terms count u (Release own) (Reply Missing) t = send_ask terms (ask_of terms.need)
+after_answer terms count u (Release own) (Reply (Locked cookie age)) t = send_ask terms (ask_of terms.need)
 after_answer terms count u ask answer t = refused answer
 
 -- what is asked at the page's end: only a page that may write asks, under its own cookie if it has one
@@ -115,7 +115,7 @@ ending_ask need own ending = None
 
 abbrev pub at_end : Terms → Option Ask → Action
 at_end terms None = over Done
-at_end terms (Some ask) = sends terms ask
+at_end terms (Some ask) = send_ask terms ask
 
 -- the answer to the request of the page's end
 abbrev pub after_end : Heard → Action
@@ -131,7 +131,7 @@ after_loss action = over LinkFault
 
 -- what the visit does at t, by its past with the latest event first
 abbrev pub act_after : Terms → List Event → ℕ → Action
-act_after terms [] t = sends terms (ask_of terms.need)
+act_after terms [] t = send_ask terms (ask_of terms.need)
 act_after terms (heard u request answer ∷ past) t =
     if has_ended past
     then after_end answer
@@ -166,3 +166,16 @@ EachFollows terms (event ∷ past) = MayFollow (act_after terms past) event × E
 -- each event of the past follows from those before it
 abbrev pub IsLawful : Terms → List Event → Type 0
 IsLawful terms past = EachFollows terms (reverse past)
+
+-- ---- the forced release
+
+-- The page needs its session's content, the last event is the answer to the visit's own ask that a lock of this cookie,
+-- older than a page may run, is in the way, and polls are left.
+pub record MeetsOldLock (terms : Terms) (past : List Event) (cookie : ℕ) : Type 0 where
+  pub content : terms.need ≢ Off
+  pub earlier : List Event
+  pub moment : ℕ
+  pub age : ℕ
+  pub last : past ≡ earlier ++ heard moment (record { key = terms.key; ask = ask_of terms.need }) (Reply (Locked cookie age)) ∷ []
+  pub old : terms.limits.execution_secs < age
+  pub polls_left : locked_answers past < terms.limits.polls

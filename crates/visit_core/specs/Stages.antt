@@ -17,7 +17,7 @@ use Rattle.visit_core.specs.declared.stage.Stage.{Stage}
 use Rattle.visit_core.specs.declared.stage.Stage.TheVariants.{Asking, Forcing, Running, Ending, Over}
 use Rattle.visit_core.specs.Acts.{Action, send, wait_until, run, over}
 use Rattle.visit_core.specs.Terms.{Terms, LimitsFit, EndingFits, HeardFits}
-use Rattle.visit_core.specs.Rule.{Event, sends, ask_of, act_of, ending_ask, locked_answers, has_ended, own_cookie, IsLawful, IsRun}
+use Rattle.visit_core.specs.Rule.{Event, send_ask, ask_of, act_of, ending_ask, locked_answers, has_ended, own_cookie, IsLawful, IsRun}
 
 -- A visit: its terms, what it asks where its stage asks, how many asks for the session met a lock, and its stage.
 pub record Progress : Type 0 where
@@ -28,10 +28,10 @@ pub record Progress : Type 0 where
 
 -- what a stage does
 abbrev pub stage_act : Terms → Ask → Stage → ℕ → Action
-stage_act terms ask (Asking from) t = if nat_lt t from then wait_until from else sends terms ask
-stage_act terms ask Forcing t = sends terms ask
+stage_act terms ask (Asking from) t = if nat_lt t from then wait_until from else send_ask terms ask
+stage_act terms ask Forcing t = send_ask terms ask
 stage_act terms ask (Running content first cookie) t = run content first
-stage_act terms ask Ending t = sends terms ask
+stage_act terms ask Ending t = send_ask terms ask
 stage_act terms ask (Over outcome) t = over outcome
 
 -- ---- what keeps a visit in range

@@ -51,10 +51,10 @@ pub struct Limits {
 }
 
 impl Default for Limits {
-    /// The documented 110 seconds and half a second, and 1,000 polls.
-    fn default() -> Limits
-        ensures { result ≡ record { execution_secs = 110; poll_ms = 500; polls = 1000 } }
-    {
+    ghost is_default = { λ limits. limits ≡ record { execution_secs = 110; poll_ms = 500; polls = 1000 } };
+
+    /// ASP.NET's 110 seconds and half a second, and 1,000 polls.
+    fn default() -> Limits {
         Limits {
             execution_secs: 110,
             poll_ms: 500,
