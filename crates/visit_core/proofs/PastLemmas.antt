@@ -121,7 +121,7 @@ forced-terms visit answer = refl
 
 -- what a visit sends that asks for the session
 asking-sends : (terms : Terms) (ask : Ask) (from t : ℕ) (request : Request) → stage_act terms ask (Asking from) t ≡ send request → request ≡ record { key = terms.key; ask = ask }
-asking-send_ask terms ask from t request e = grind (arith, common_steps)
+asking-sends terms ask from t request e = grind (arith, common_steps)
 
 send-inj : (a b : Request) → send a ≡ send b → b ≡ a
 send-inj a b e = cc
@@ -132,7 +132,7 @@ pub HasPast-heard : (terms : Terms) (ask : Ask) (locked : ℕ) (stage : Stage) (
     HasPast visit past → act_of terms past t ≡ send request → HasPast (hears visit t stage answer) (past ++ heard t request answer ∷ []))
 HasPast-heard terms ask locked (Asking from) t answer past request fits h sent =
     let k : Knows terms ask locked (Asking from) (reverse past) = h.knows in
-    let is_request : request ≡ record { key = terms.key; ask = ask } = asking-send_ask terms ask from t request (sym (h.acts t) ∙ sent) in
+    let is_request : request ≡ record { key = terms.key; ask = ask } = asking-sends terms ask from t request (sym (h.acts t) ∙ sent) in
     let same : request ≡ record { key = terms.key; ask = ask_of terms.need } = rw k.0 at is_request in
     rw (same, k.0) (HasPast-push _ terms past _ (asked-terms _ t answer _) ((rw same at sent, fits), h.lawful) (asked-acts terms.key terms.need terms.limits locked from t answer (reverse past) k.2 k.1) (asked-knows terms.key terms.need terms.limits locked from t answer (reverse past) k.2 k.1 k.3))
 HasPast-heard terms ask locked Forcing t answer past request fits h sent =

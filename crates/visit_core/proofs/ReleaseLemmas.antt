@@ -37,7 +37,9 @@ locked_answers-append : (xs ys : List Event) → locked_answers (xs ++ ys) ≡ l
 locked_answers-append [] ys = omega arith
 locked_answers-append (heard t request answer ∷ xs) ys =
     elim (is_locked_ask request.ask answer) as (λ b. (if b then locked_answers (xs ++ ys) + 1 else locked_answers (xs ++ ys)) ≡ (if b then locked_answers xs + 1 else locked_answers xs) + locked_answers ys) [
-    true ↦ omega (arith, locked_answers-append xs ys) | false ↦ locked_answers-append xs ys ]
+      | true ↦ omega (arith, locked_answers-append xs ys)
+      | false ↦ locked_answers-append xs ys
+    ]
 locked_answers-append (ended ending ∷ xs) ys = locked_answers-append xs ys
 locked_answers-append (lost ∷ xs) ys = locked_answers-append xs ys
 
@@ -144,9 +146,11 @@ pub record Met (terms : Terms) (past : List Event) (cookie : ℕ) : Type 0 where
 
 -- an own ask that met a lock asked for the session
 own-ask : (terms : Terms) (request : Request) → Asked terms request → (age cookie : ℕ) → is_locked_ask request.ask (Reply (Locked cookie age)) ≡ true → (request ≡ record { key = terms.key; ask = ask_of terms.need }) × (terms.need ≢ Off)
-own-ask terms request (inl is) age cookie locked =
-    (is, λ e. let asks : request.ask ≡ Reset = ap (λ (r : Request). r.ask) is ∙ ap ask_of e in
-    let never : false ≡ true = rw asks at locked in cc)
+own-ask terms request (inl is) age cookie locked = (
+  is,
+  λ e. let asks : request.ask ≡ Reset = ap (λ (r : Request). r.ask) is ∙ ap ask_of e in
+      let never : false ≡ true = rw asks at locked in cc,
+)
 own-ask terms request (inr (other, is)) age cookie locked = let never : false ≡ true = rw is at locked in absurd cc
 
 not_le : (a b : ℕ) → nat_le a b ≡ false → b < a

@@ -26,3 +26,17 @@ ActFits (send request) = RequestFits request
 ActFits (run content first) = IfSome content BodyFits
 ActFits (wait_until moment) = ⊤
 ActFits (over outcome) = ⊤
+
+-- a request is sent
+abbrev pub IsSend : Action → Type 0
+IsSend (send request) = ⊤
+IsSend (wait_until moment) = ⊥
+IsSend (run content first) = ⊥
+IsSend (over outcome) = ⊥
+
+-- the page is to run
+abbrev pub IsRun : Action → Type 0
+IsRun (send request) = ⊥
+IsRun (wait_until moment) = ⊥
+IsRun (run content first) = ⊤
+IsRun (over outcome) = ⊥

@@ -14,7 +14,7 @@ use Rattle.visit_core.specs.declared.act.Ending.TheVariants.{Save, Keep, Abandon
 use Rattle.visit_core.specs.declared.act.Heard.{Heard}
 use Rattle.visit_core.specs.declared.act.Heard.TheVariants.{Reply, Strange}
 use Rattle.visit_core.specs.declared.outcome.Outcome.TheVariants.{Done, LostLocked, LostMissing, GaveUp, LinkFault, Refused}
-use Rattle.visit_core.specs.Acts.{Action, send, wait_until, run, over}
+use Rattle.visit_core.specs.Acts.{Action, send, wait_until, run, over, IsRun}
 use Rattle.visit_core.specs.Terms.{Terms, EndingFits, HeardFits}
 
 -- an event in a visit's past: a request was answered at a moment, the page ended, or the link was lost
@@ -144,13 +144,6 @@ abbrev pub act_of : Terms → List Event → ℕ → Action
 act_of terms past t = act_after terms (reverse past) t
 
 -- ---- lawful pasts
-
--- the page is to run
-abbrev pub IsRun : Action → Type 0
-IsRun (run content first) = ⊤
-IsRun (send request) = ⊥
-IsRun (wait_until moment) = ⊥
-IsRun (over outcome) = ⊥
 
 -- The event may follow where the visit acts so: an answer is to the request that is sent at its moment, and a page ends that runs.
 abbrev pub MayFollow : (ℕ → Action) → Event → Type 0

@@ -17,7 +17,7 @@ use Rattle.visit_core.specs.declared.stage.Stage.{Stage}
 use Rattle.visit_core.specs.declared.stage.Stage.TheVariants.{Asking, Forcing, Running, Ending, Over}
 use Rattle.visit_core.specs.Acts.{Action, send, wait_until, run, over}
 use Rattle.visit_core.specs.Terms.{Terms, LimitsFit, EndingFits, HeardFits}
-use Rattle.visit_core.specs.Rule.{Event, send_ask, ask_of, act_of, ending_ask, locked_answers, has_ended, own_cookie, IsLawful, IsRun}
+use Rattle.visit_core.specs.Rule.{Event, send_ask, ask_of, act_of, ending_ask, locked_answers, has_ended, own_cookie, IsLawful}
 
 -- A visit: its terms, what it asks where its stage asks, how many asks for the session met a lock, and its stage.
 pub record Progress : Type 0 where
@@ -66,19 +66,27 @@ pub record HasPast (visit : Progress) (past : List Event) : Type 0 where
   pub acts : (t : ℕ) → act_of visit.terms past t ≡ stage_act visit.terms visit.ask visit.stage t
   pub knows : Knows visit.terms visit.ask visit.locked visit.stage (reverse past)
 
--- The visit sends a request at this moment.
-pub record Sends (visit : Progress) (t : ℕ) : Type 0 where
-  pub past : List Event
-  pub request : Request
-  pub has_past : HasPast visit past
-  pub sent : act_of visit.terms past t ≡ send request
+-- the stage sends a request at this moment
+abbrev pub StageSends : Stage → ℕ → Type 0
+StageSends (Asking from) t = from ≤ t
+StageSends Forcing t = ⊤
+StageSends (Running content first cookie) t = ⊥
+StageSends Ending t = ⊤
+StageSends (Over outcome) t = ⊥
 
--- The page is to run.
-pub record Runs (visit : Progress) : Type 0 where
-  pub past : List Event
-  pub t : ℕ
-  pub has_past : HasPast visit past
-  pub runs : IsRun (act_of visit.terms past t)
+abbrev pub Sends : Progress → ℕ → Type 0
+Sends visit t = StageSends visit.stage t
+
+-- the page is to run
+abbrev pub StageRuns : Stage → Type 0
+StageRuns (Asking from) = ⊥
+StageRuns Forcing = ⊥
+StageRuns (Running content first cookie) = ⊤
+StageRuns Ending = ⊥
+StageRuns (Over outcome) = ⊥
+
+abbrev pub Runs : Progress → Type 0
+Runs visit = StageRuns visit.stage
 
 -- ---- what the calls make of a visit
 

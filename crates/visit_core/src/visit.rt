@@ -3,7 +3,7 @@ ghost use Rattle.std.specs.Prelude.{◌≡◌, ◌≤◌, ◌<◌, ◌^◌, ℕ,
 ghost use Rattle.asp_messages.specs.Ranges.{KeyFits};
 ghost use Rattle.asp_messages.specs.declared.request.Request.{Request};
 ghost use Rattle.visit_core.specs.Terms.{Terms, LimitsFit, EndingFits, HeardFits};
-ghost use Rattle.visit_core.specs.Acts.{action_of, send, ActFits};
+ghost use Rattle.visit_core.specs.Acts.{action_of, send, ActFits, IsSend, IsRun};
 ghost use Rattle.visit_core.specs.Rule.{Event, heard, ended, lost, act_of};
 ghost use Rattle.visit_core.specs.Stages.{HasPast, Sends, Runs, LockFits, lock_met, answered, meets_lock, hears_answer, hears_release, hears, finishes, lost_stage};
 
@@ -59,6 +59,8 @@ impl Visit {
     pub fn next(&self, t: u64) -> Act<'_>
         ensures act { (past : List Event) → HasPast self.now past → action_of result ≡ act_of self.now.terms past t }
         ensures in_range { ActFits (action_of result) }
+        ensures sends { IsSend (action_of result) → Sends self.now t }
+        ensures runs { IsRun (action_of result) → Runs self.now }
     {
         match &self.stage {
             Stage::Asking { from } if t < *from => Act::WaitUntil(*from),
@@ -125,6 +127,7 @@ impl Visit {
 
     fn hear(&mut self, t: u64, answer: Heard)
         requires moment { t ≤ 2 ^ 62 }
+        requires sends { Sends self.old t }
         requires fits { HeardFits answer }
         ensures { self.new ≡ hears self.old t self.old.stage answer }
     {
@@ -132,14 +135,14 @@ impl Visit {
             Stage::Asking { .. } => self.hear_answer(t, answer),
             Stage::Forcing => self.hear_release(answer),
             Stage::Ending => self.stage = Stage::end_answered(answer),
-            Stage::Running { .. } | Stage::Over(_) => {}
+            Stage::Running { .. } | Stage::Over(_) => unreachable!(),
         }
     }
 
     /// Hears at the moment `t`, in milliseconds, the answer to the request that the visit sends then.
     pub fn heard(&mut self, t: u64, answer: Heard)
         requires moment { t ≤ 2 ^ 62 }
-        requires sent { Sends self.old t }
+        requires sends { Sends self.old t }
         requires fits { HeardFits answer }
         ensures terms { self.new.terms ≡ self.old.terms }
         ensures past { (past : List Event) (request : Request) → HasPast self.old past → act_of self.old.terms past t ≡ send request → HasPast self.new (past ++ heard t request answer ∷ []) }
@@ -165,11 +168,10 @@ impl Visit {
         ensures terms { self.new.terms ≡ self.old.terms }
         ensures past { (past : List Event) → HasPast self.old past → HasPast self.new (past ++ ended ending ∷ []) }
     {
-        let own = match self.stage {
-            Stage::Running { cookie, .. } => cookie,
-            _ => None,
+        let Stage::Running { cookie, .. } = self.stage else {
+            unreachable!()
         };
-        match ending.ask(self.need, own) {
+        match ending.ask(self.need, cookie) {
             None => self.stage = Stage::Over(Outcome::Done),
             Some(ask) => {
                 self.request.ask = ask;
