@@ -1,24 +1,25 @@
 -- What an answer adds to a past, and what the visit makes of it.
-use Rattle.std.proofs.Common.{◌≡◌, ℕ, ◌+◌, List, [], ◌∷◌, ◌++◌, Bool, true, false, refl, sym, ◌∙◌, arith, rules, ap}
-use Rattle.std.specs.Prelude.{nat_le, nat_lt, reverse, Option, Some, None, cond}
+use Rattle.std.proofs.Common.{◌≡◌, ℕ, ◌+◌, List, [], ◌∷◌, ◌++◌, true, false, refl, sym, ◌∙◌, arith, ap}
+use Rattle.std.specs.Prelude.{nat_le, nat_lt, reverse, Option, Some, None}
 use Rattle.std.proofs.lemmas.List.{reverse-append}
 use Rattle.std.proofs.lemmas.Grind.{common_steps}
 use Rattle.asp_messages.specs.declared.request.Request.{Request}
 use Rattle.asp_messages.specs.declared.request.Ask.{Ask}
-use Rattle.asp_messages.specs.declared.request.Ask.TheVariants.{Read, Acquire, Release, Write, Remove, Reset}
-use Rattle.asp_messages.specs.declared.reply.Reply.TheVariants.{Found, Done as done_reply, Locked, Missing, Bad, KeeperFault, NoMemory, CookiesOut, PlacesOut}
+use Rattle.asp_messages.specs.declared.request.Ask.TheVariants.{Release}
+use Rattle.asp_messages.specs.declared.reply.Reply.TheVariants.{Found, Done as done_reply, Locked, Missing}
 use Rattle.visit_core.specs.declared.terms.Need.{Need}
 use Rattle.visit_core.specs.declared.terms.Need.TheVariants.{Exclusive, ReadOnly, Off}
 use Rattle.visit_core.specs.declared.terms.Limits.{Limits}
 use Rattle.visit_core.specs.declared.act.Heard.{Heard}
-use Rattle.visit_core.specs.declared.act.Heard.TheVariants.{Reply, Strange}
+use Rattle.visit_core.specs.declared.act.Heard.TheVariants.{Reply}
 use Rattle.visit_core.specs.declared.stage.Lock.{Lock}
 use Rattle.visit_core.specs.declared.stage.Stage.{Stage}
 use Rattle.visit_core.specs.declared.stage.Stage.TheVariants.{Asking, Forcing, Running, Ending, Over}
-use Rattle.visit_core.specs.Acts.{Action, send, wait_until, run, over}
+use Rattle.visit_core.specs.Acts.{send, run, over}
 use Rattle.visit_core.specs.Terms.{Terms, HeardFits}
-use Rattle.visit_core.specs.Rule.{Event, send_ask, after_locked, heard, ended, lost, act_of, act_after, ask_of, EachFollows, MayFollow, locked_answers, has_ended, own_cookie}
-use Rattle.visit_core.specs.Stages.{Progress, meets_lock, meets_lock_if, end_answered, HasPast, Knows, stage_act, hears, hears_answer, hears_release, lock_met}
+use Rattle.visit_core.specs.Rule.{Event, send_ask, after_locked, heard, act_of, act_after, ask_of, EachFollows, locked_answers, has_ended, own_cookie}
+use Rattle.visit_core.specs.Stages.{Progress, HasPast, Knows, stage_act}
+use Rattle.visit_core.specs.Tables.{meets_lock, meets_lock_if, end_answered, hears, hears_answer, hears_release}
 
 -- one more event, behind the others
 HasPast-push : (visit : Progress) (terms : Terms) (past : List Event) (event : Event) → visit.terms ≡ terms → EachFollows terms (event ∷ reverse past) → ((t : ℕ) → act_after terms (event ∷ reverse past) t ≡ stage_act visit.terms visit.ask visit.stage t) → Knows visit.terms visit.ask visit.locked visit.stage (event ∷ reverse past) → HasPast visit (past ++ event ∷ [])

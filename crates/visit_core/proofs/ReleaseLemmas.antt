@@ -1,8 +1,7 @@
 -- When a visit releases a lock before its page's end.
-use Rattle.std.proofs.Common.{◌≡◌, ◌≢◌, ◌<◌, ◌⊎◌, inl, inr, ℕ, ◌+◌, List, [], ◌∷◌, ◌++◌, Bool, true, false, refl, sym, ◌∙◌, ap, arith, rules}
-use Rattle.std.specs.Prelude.{nat_le, nat_lt, reverse, Option, Some, None, ◌||◌, if◌then◌else◌}
+use Rattle.std.proofs.Common.{◌≡◌, ◌≢◌, ◌<◌, ◌⊎◌, inl, inr, ℕ, ◌+◌, List, [], ◌∷◌, ◌++◌, Bool, true, false, refl, sym, ◌∙◌, ap, arith}
+use Rattle.std.specs.Prelude.{nat_le, nat_lt, reverse, Some, None, ◌||◌, if◌then◌else◌}
 use Rattle.std.proofs.lemmas.List.{reverse-append, reverse-reverse}
-use Rattle.std.proofs.lemmas.Grind.{common_steps}
 use Rattle.std.proofs.lemmas.Bool.Decides.{nat_tests}
 use Rattle.asp_messages.specs.declared.request.Request.{Request}
 use Rattle.asp_messages.specs.declared.request.Ask.{Ask}

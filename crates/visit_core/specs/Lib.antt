@@ -1,5 +1,6 @@
-pub mod Terms
 pub mod Acts
+pub mod OutcomeText
 pub mod Rule
 pub mod Stages
-pub mod OutcomeText
+pub mod Tables
+pub mod Terms

@@ -23,7 +23,7 @@ pub data Event : Type 0 where
   ended : Ending → Event
   lost : Event
 
--- ---- what a past holds
+-- ---- what a past holds, in any order
 
 -- an ask for the session was answered that a lock is in the way
 abbrev pub is_locked_ask : Ask → Heard → Bool
@@ -51,6 +51,7 @@ abbrev pub cookie_found : Ask → Heard → Option ℕ
 cookie_found Acquire (Reply (Found body minutes cookie first)) = cookie
 cookie_found ask answer = None
 
+-- the later cookie, where there is one
 abbrev pub or_earlier : Option ℕ → Option ℕ → Option ℕ
 or_earlier None earlier = earlier
 or_earlier (Some cookie) earlier = Some cookie
@@ -113,6 +114,7 @@ ending_ask Exclusive (Some own) Keep = Some (Release own)
 ending_ask Exclusive (Some own) Abandon = Some (Remove (Some own))
 ending_ask need own ending = None
 
+-- the page ended
 abbrev pub at_end : Terms → Option Ask → Action
 at_end terms None = over Done
 at_end terms (Some ask) = send_ask terms ask

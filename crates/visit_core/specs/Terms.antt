@@ -1,5 +1,5 @@
 -- What a visit is about, and the ranges of its lengths and numbers.
-use Rattle.std.specs.Prelude.{ℕ, ◌≤◌, ◌<◌, ◌^◌, List, ⊤}
+use Rattle.std.specs.Prelude.{ℕ, ◌≤◌, ◌<◌, List, ⊤}
 use Rattle.asp_messages.specs.Ranges.{BodyFits, MinutesFit, ReplyFits}
 use Rattle.visit_core.specs.declared.terms.Need.{Need}
 use Rattle.visit_core.specs.declared.terms.Limits.{Limits}

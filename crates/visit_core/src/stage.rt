@@ -1,7 +1,7 @@
 //! How far a visit has come, and where an answer leads.
 ghost use Rattle.std.specs.Prelude.{◌≡◌, IfSome};
 ghost use Rattle.visit_core.specs.Terms.{HeardFits};
-ghost use Rattle.visit_core.specs.Stages.{LockFits, lock_met, acquired, answered, end_answered, refused};
+ghost use Rattle.visit_core.specs.Tables.{LockFits, lock_met, acquired, answered, end_answered, refused};
 
 use crate::{Heard, Outcome};
 use asp_base::Bytes;

@@ -1,11 +1,12 @@
 //! A visit, from its first ask to its outcome.
-ghost use Rattle.std.specs.Prelude.{◌≡◌, ◌≤◌, ◌<◌, ◌^◌, ℕ, ◌++◌, ◌∷◌, [], List};
+ghost use Rattle.std.specs.Prelude.{◌≡◌, ◌+◌, ◌*◌, ◌≤◌, ◌<◌, ◌^◌, ℕ, ◌++◌, ◌∷◌, [], List};
 ghost use Rattle.asp_messages.specs.Ranges.{KeyFits};
 ghost use Rattle.asp_messages.specs.declared.request.Request.{Request};
 ghost use Rattle.visit_core.specs.Terms.{Terms, LimitsFit, EndingFits, HeardFits};
-ghost use Rattle.visit_core.specs.Acts.{action_of, send, ActFits, IsSend, IsRun};
+ghost use Rattle.visit_core.specs.Acts.{action_of, send, wait_until, ActFits, IsSend, IsRun};
 ghost use Rattle.visit_core.specs.Rule.{Event, heard, ended, lost, act_of};
-ghost use Rattle.visit_core.specs.Stages.{HasPast, Sends, Runs, LockFits, lock_met, answered, meets_lock, hears_answer, hears_release, hears, finishes, lost_stage};
+ghost use Rattle.visit_core.specs.Stages.{HasPast, Sends, Runs, steps_left, StageFits};
+ghost use Rattle.visit_core.specs.Tables.{LockFits, lock_met, answered, meets_lock, hears_answer, hears_release, hears};
 
 use crate::stage::{Lock, Stage};
 use crate::{Act, Ending, Heard, Limits, Need, Outcome};
@@ -13,9 +14,10 @@ use asp_base::Bytes;
 use asp_messages::{Ask, Reply, Request};
 use std::marker::Model;
 
-/// One page's visit to the state server. It tells at each moment what to do next, and is told what
+/// One page's visit to the state server. It says at each moment what to do next, and is told what
 /// was heard, how the page ended, and that the link was lost. Contracts tie it to its past, the list
-/// of these events.
+/// of these events: the calls lead from the empty past to a visit, and what it does is the rule of
+/// its past.
 #[derive(Debug, Drop)]
 pub struct Visit {
     request: Request,
@@ -42,6 +44,9 @@ impl Visit {
         requires limits { LimitsFit limits }
         ensures terms { result.terms ≡ record { key = key; need = need; limits = limits } }
         ensures past { HasPast result [] }
+
+        // A visit ends: each answer, each wait and the page's end leave it fewer steps.
+        ensures steps { (t : ℕ) → steps_left result t ≤ 3 * limits.polls + 2 }
     {
         Visit {
             request: Request {
@@ -55,12 +60,14 @@ impl Visit {
         }
     }
 
-    /// What to do at the moment `t`, in milliseconds.
+    /// What to do at the moment `t`, in milliseconds. Where it is `Send`, `heard` may be called at
+    /// `t`, and where it is `Run`, `finish`.
     pub fn next(&self, t: u64) -> Act<'_>
         ensures act { (past : List Event) → HasPast self.now past → action_of result ≡ act_of self.now.terms past t }
         ensures in_range { ActFits (action_of result) }
         ensures sends { IsSend (action_of result) → Sends self.now t }
         ensures runs { IsRun (action_of result) → Runs self.now }
+        ensures waits { (u : ℕ) → action_of result ≡ wait_until u → steps_left self.now u < steps_left self.now t }
     {
         match &self.stage {
             Stage::Asking { from } if t < *from => Act::WaitUntil(*from),
@@ -73,6 +80,7 @@ impl Visit {
         }
     }
 
+    /// An ask for the session met this lock.
     fn meet_lock(&mut self, t: u64, lock: Lock)
         requires moment { t ≤ 2 ^ 62 }
         requires lock { LockFits lock }
@@ -93,6 +101,7 @@ impl Visit {
         }
     }
 
+    /// An ask for the session met no lock.
     fn meet_none(&mut self, answer: Heard)
         requires { HeardFits answer }
         ensures { self.new ≡ record self.old { stage = answered self.old.ask answer } }
@@ -100,6 +109,7 @@ impl Visit {
         self.stage = Stage::answered(&self.request.ask, answer);
     }
 
+    /// The answer to an ask for the session.
     fn hear_answer(&mut self, t: u64, answer: Heard)
         requires moment { t ≤ 2 ^ 62 }
         requires fits { HeardFits answer }
@@ -112,6 +122,7 @@ impl Visit {
         }
     }
 
+    /// The answer to a forced release: whatever became of the lock, the session is asked for again.
     fn hear_release(&mut self, answer: Heard)
         requires { self.old.stage ≡ Stage.Forcing }
         ensures { self.new ≡ hears_release self.old answer }
@@ -125,11 +136,13 @@ impl Visit {
         }
     }
 
+    /// An answer, by the stage that sent its request.
     fn hear(&mut self, t: u64, answer: Heard)
         requires moment { t ≤ 2 ^ 62 }
         requires sends { Sends self.old t }
         requires fits { HeardFits answer }
-        ensures { self.new ≡ hears self.old t self.old.stage answer }
+        ensures hears { self.new ≡ hears self.old t self.old.stage answer }
+        ensures sound { StageFits self.old.locked self.old.terms.limits.polls self.old.stage }
     {
         match self.stage {
             Stage::Asking { .. } => self.hear_answer(t, answer),
@@ -139,13 +152,15 @@ impl Visit {
         }
     }
 
-    /// Hears at the moment `t`, in milliseconds, the answer to the request that the visit sends then.
+    /// Hears at the moment `t`, in milliseconds, the answer to the request that `next(t)` sends. An
+    /// answer that does not belong to its request ends the visit with `Outcome::Refused`.
     pub fn heard(&mut self, t: u64, answer: Heard)
         requires moment { t ≤ 2 ^ 62 }
         requires sends { Sends self.old t }
         requires fits { HeardFits answer }
         ensures terms { self.new.terms ≡ self.old.terms }
         ensures past { (past : List Event) (request : Request) → HasPast self.old past → act_of self.old.terms past t ≡ send request → HasPast self.new (past ++ heard t request answer ∷ []) }
+        ensures steps { (u : ℕ) → steps_left self.new u < steps_left self.old t }
     {
         self.hear(t, answer);
     }
@@ -161,12 +176,13 @@ impl Visit {
         }
     }
 
-    /// The page, which was to run, ends.
+    /// The page ends, which `next` let run. Only an exclusive page asks anything then.
     pub fn finish(&mut self, ending: Ending)
         requires runs { Runs self.old }
         requires fits { EndingFits ending }
         ensures terms { self.new.terms ≡ self.old.terms }
         ensures past { (past : List Event) → HasPast self.old past → HasPast self.new (past ++ ended ending ∷ []) }
+        ensures steps { (t u : ℕ) → steps_left self.new u < steps_left self.old t }
     {
         let Stage::Running { cookie, .. } = self.stage else {
             unreachable!()
