@@ -1,12 +1,12 @@
 -- Spellings of replies.
-use Rattle.std.proofs.Common.{◌≡◌, ℕ, ◌+◌, ◌<◌, ◌≤◌, List, [], ◌∷◌, ◌++◌, length, Some, sym, ap, ◌∙◌, inl, inr, arith, append_assoc, length-append}
+use Rattle.std.proofs.Common.{◌≡◌, ℕ, ◌+◌, ◌<◌, ◌≤◌, List, [], ◌∷◌, ◌++◌, length, Some, sym, ap, ◌∙◌, arith, append_assoc, length-append}
 use Rattle.httparse.specs.Grammar.{ReadsResponse, print_response, status_code}
 use Rattle.httparse.proofs.GrammarLemmas.{response_unique, ReadsResponse-append, print_response-append}
 use Rattle.asp_messages.specs.Fields.{body_length, most_body, response_fields}
 use Rattle.asp_messages.specs.Head.{most_head, IsReplyHead}
 use Rattle.asp_messages.specs.ReplySpelling.{Answer, SpellsReply, answer_of}
 use Rattle.asp_messages.specs.Stream.{HasNoMessage, IsWaiting}
-use Rattle.asp_messages.proofs.FramingLemmas.{body_length-le, split_alike}
+use Rattle.asp_messages.proofs.FramingLemmas.{split_alike, waiting-short}
 use Rattle.asp_messages.proofs.StreamLemmas.{IsUnique}
 
 -- the head of a spelling, with what comes behind it
@@ -44,6 +44,4 @@ SpellsReply-unique bytes front back front' back' a a' is s is' s' =
 
 -- what waits for more is short
 pub waiting_reply-short : (bytes : List ℕ) → IsWaiting IsReplyHead response_fields bytes → length bytes < most_head + most_body
-waiting_reply-short bytes (inl (none, short)) = omega arith
-waiting_reply-short bytes (inr await) =
-    omega (arith, ap length await.bytes_are, length-append await.front await.back, await.is_head.short, body_length-le _ _ await.announced, await.short)
+waiting_reply-short bytes waiting = waiting-short IsReplyHead response_fields bytes (λ front head h. h.short) waiting
