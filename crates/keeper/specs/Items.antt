@@ -19,3 +19,8 @@ TellsSets None None key item = ⊤
 TellsSets None (Some new) key item = ⊥
 TellsSets (Some old) None key item = ⊥
 TellsSets (Some old) (Some new) key item = Sets old new key item
+
+-- where a keeper tells, no key has an item
+abbrev pub IsEmptyTold : Option (List ℕ → Option Item) → Type 0
+IsEmptyTold None = ⊤
+IsEmptyTold (Some items) = (key : List ℕ) → items key ≡ None

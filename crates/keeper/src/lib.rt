@@ -3,8 +3,11 @@
 
 mod errors;
 mod keeping;
+mod list_keeper;
+mod pairs;
 mod ran;
 
 pub use errors::KeepError;
 pub use keeping::Keeper;
+pub use list_keeper::ListKeeper;
 pub use ran::Ran;
