@@ -10,6 +10,8 @@ mod reply;
 mod reply_text;
 mod request;
 mod request_text;
+#[cfg(test)]
+mod tests;
 mod wire;
 
 pub use laws::{one_stream, waiting_is_short};
