@@ -23,4 +23,7 @@ pub use reply::{Reply, status_of};
 pub use reply_text::{ReplyHead, reply_body, reply_head};
 pub use request::{Ask, Message, Request};
 pub use request_text::write_request;
-pub use wire::{one_reply_stream, reply_round_trip, request_round_trip, waiting_reply_is_short};
+pub use wire::{
+    one_reply_stream, reply_round_trip, request_round_trip, spelled_is_in_range,
+    waiting_reply_is_short,
+};
