@@ -23,40 +23,55 @@ fn write_of(alloc: Global, body: &[u8], fresh: bool, cookie: Option<u64>) -> Res
     })
 }
 
+const LAST_COOKIE: u64 = 9_223_372_036_854_775_807;
+
+fn plain_ask(number: u8) -> Ask {
+    match number {
+        0 => Ask::Release { cookie: 2 },
+        1 => Ask::Read,
+        2 => Ask::Acquire,
+        3 => Ask::Reset,
+        4 => Ask::Remove { cookie: None },
+        _ => Ask::Remove {
+            cookie: Some(LAST_COOKIE),
+        },
+    }
+}
+
+/// The texts of the plain asks on a key.
+const TEXTS: [(u8, &[u8], &[u8]); 6] = [
+    (
+        0,
+        b"/a",
+        b">GET %2Fa HTTP/1.1\r\nHost: state\r\nExclusive: release\r\nLockCookie: 2\r\n\r\n",
+    ),
+    (1, b"a b", b">GET a%20b HTTP/1.1\r\nHost: state\r\n\r\n"),
+    (
+        2,
+        b"~(",
+        b">GET ~( HTTP/1.1\r\nHost: state\r\nExclusive: acquire\r\n\r\n",
+    ),
+    (3, b"a", b">HEAD a HTTP/1.1\r\nHost: state\r\n\r\n"),
+    (4, b"a", b">DELETE a HTTP/1.1\r\nHost: state\r\n\r\n"),
+    (
+        5,
+        b"a",
+        b">DELETE a HTTP/1.1\r\nHost: state\r\nLockCookie: 9223372036854775807\r\n\r\n",
+    ),
+];
+
 #[test]
 fn requests_have_their_canonical_text(rt: HostRuntime) -> Result<(), Fail> {
+    for (number, key, want) in TEXTS {
+        let text = text_of(rt.alloc(), key, plain_ask(number))?;
+        assert_eq!(rt; text.as_slice(), want);
+    }
+    Ok(())
+}
+
+#[test]
+fn writes_have_their_canonical_text(rt: HostRuntime) -> Result<(), Fail> {
     let alloc = rt.alloc();
-    let last = u64::MAX / 2;
-    let release = text_of(alloc, b"/a", Ask::Release { cookie: 2 })?;
-    assert_eq!(rt;
-        release.as_slice(),
-        b">GET %2Fa HTTP/1.1\r\nHost: state\r\nExclusive: release\r\nLockCookie: 2\r\n\r\n".as_slice()
-    );
-    let read = text_of(alloc, b"a b", Ask::Read)?;
-    assert_eq!(rt;
-        read.as_slice(),
-        b">GET a%20b HTTP/1.1\r\nHost: state\r\n\r\n".as_slice()
-    );
-    let acquire = text_of(alloc, b"~(", Ask::Acquire)?;
-    assert_eq!(rt;
-        acquire.as_slice(),
-        b">GET ~( HTTP/1.1\r\nHost: state\r\nExclusive: acquire\r\n\r\n".as_slice()
-    );
-    let reset = text_of(alloc, b"a", Ask::Reset)?;
-    assert_eq!(rt;
-        reset.as_slice(),
-        b">HEAD a HTTP/1.1\r\nHost: state\r\n\r\n".as_slice()
-    );
-    let remove = text_of(alloc, b"a", Ask::Remove { cookie: None })?;
-    assert_eq!(rt;
-        remove.as_slice(),
-        b">DELETE a HTTP/1.1\r\nHost: state\r\n\r\n".as_slice()
-    );
-    let named = text_of(alloc, b"a", Ask::Remove { cookie: Some(last) })?;
-    assert_eq!(rt;
-        named.as_slice(),
-        b">DELETE a HTTP/1.1\r\nHost: state\r\nLockCookie: 9223372036854775807\r\n\r\n".as_slice()
-    );
     let write = text_of(alloc, b"a", write_of(alloc, b"", false, None)?)?;
     assert_eq!(rt;
         write.as_slice(),

@@ -13,86 +13,86 @@ const LAST_COOKIE: u64 = 9_223_372_036_854_775_807;
 
 const LAST_AGE: u64 = 4_611_686_018_427_387_904;
 
-const LONGEST_BODY: usize = 524_288;
+/// Texts of a reply stream, and what is read of them.
+const REPLIES: [(&[u8], &[u8]); 22] = [
+    (
+        b"HTTP/1.1 200 OK\r\nTimeout:20\r\nX-AspNet-Version: 4.0\r\nContent-Length:0\r\n\r\n",
+        b"found 0 20 0 x\nend\n",
+    ),
+    (b"HTTP/1.1 302 Found\r\n\r\n", b"strange 302\nend\n"),
+    (
+        b"HTTP/1.1 423 Locked\r\nLockCookie: 1\r\n\r\n",
+        b"strange 423\nend\n",
+    ),
+    (
+        b"HTTP/1.1 423 Locked\r\nLockAge: 1\r\n\r\n",
+        b"strange 423\nend\n",
+    ),
+    (
+        b"HTTP/1.1 423 Locked\r\nlockage: 04611686018427387904\r\nLOCKCOOKIE: 0\r\n\r\n",
+        b"locked 0 4611686018427387904\nend\n",
+    ),
+    (
+        b"HTTP/1.1 423 Locked\r\nLockAge: 4611686018427387905\r\nLockCookie: 0\r\n\r\n",
+        b"strange 423\nend\n",
+    ),
+    (
+        b"HTTP/1.1 423 Locked\r\nLockAge: 1\r\nLockAge: 1\r\nLockCookie: 0\r\n\r\n",
+        b"strange 423\nend\n",
+    ),
+    (b"HTTP/1.1 200 OK\r\n\r\n", b"done\nend\n"),
+    (
+        b"HTTP/1.0 200\r\nContent-Length: 1\r\n\r\nx",
+        b"strange 200\nend\n",
+    ),
+    (
+        b"HTTP/1.1 200 OK\r\nLockCookie: no\r\nActionFlags: 2\r\n\r\n",
+        b"done\nend\n",
+    ),
+    (
+        b"HTTP/1.1 200 OK\r\nTimeout: 1\r\nActionFlags: 2\r\n\r\n",
+        b"strange 200\nend\n",
+    ),
+    (
+        b"HTTP/1.1 200 OK\r\nTimeout: 1\r\nActionFlags: 0\r\nLockCookie: 0\r\n\r\n",
+        b"found 0 1 0 x\nend\n",
+    ),
+    (
+        b"HTTP/1.1 200 OK\r\nTimeout: 1\r\nTimeout: 1\r\n\r\n",
+        b"strange 200\nend\n",
+    ),
+    (
+        b"HTTP/1.1 200 OK\r\nTimeout: 0\r\n\r\n",
+        b"strange 200\nend\n",
+    ),
+    (
+        b"HTTP/1.1 200 OK\r\nTimeout: 525601\r\n\r\n",
+        b"strange 200\nend\n",
+    ),
+    (
+        b"HTTP/1.1 200 OK\r\nTimeout: 1\r\nLockCookie: 9223372036854775808\r\n\r\n",
+        b"strange 200\nend\n",
+    ),
+    (
+        b"HTTP/1.1 404 Gone\r\nTimeout: no\r\nContent-Length: 2\r\n\r\nzzHTTP/1.1 400 Bad\n\n",
+        b"missing\nbad\nend\n",
+    ),
+    (
+        b"HTTP/1.1 500 a\r\n\r\nHTTP/1.1 503 b\r\n\r\nHTTP/1.1 507 c\r\n\r\nHTTP/1.1 508 d\r\n\r\n",
+        b"keeper-fault\nno-memory\ncookies-out\nplaces-out\nend\n",
+    ),
+    (b"HTTP/1.1 200 OK\r\nContent-Length: 5\r\n\r\nab", b"cut\n"),
+    (
+        b"HTTP/1.1 200 OK\r\nContent-Length: 4194305\r\n\r\n",
+        b"broken\ncut\n",
+    ),
+    (b"HTTP/1.1 404 Gone\r\n\r\n\r\n", b"missing\ncut\n"),
+    (b"", b"end\n"),
+];
 
 #[test]
 fn replies_of_a_server_are_read(rt: HostRuntime) -> Result<(), Fail> {
-    let rows: [(&[u8], &[u8]); 22] = [
-        (
-            b"HTTP/1.1 200 OK\r\nTimeout:20\r\nX-AspNet-Version: 4.0\r\nContent-Length:0\r\n\r\n",
-            b"found 0 20 0 x\nend\n",
-        ),
-        (b"HTTP/1.1 302 Found\r\n\r\n", b"strange 302\nend\n"),
-        (
-            b"HTTP/1.1 423 Locked\r\nLockCookie: 1\r\n\r\n",
-            b"strange 423\nend\n",
-        ),
-        (
-            b"HTTP/1.1 423 Locked\r\nLockAge: 1\r\n\r\n",
-            b"strange 423\nend\n",
-        ),
-        (
-            b"HTTP/1.1 423 Locked\r\nlockage: 04611686018427387904\r\nLOCKCOOKIE: 0\r\n\r\n",
-            b"locked 0 4611686018427387904\nend\n",
-        ),
-        (
-            b"HTTP/1.1 423 Locked\r\nLockAge: 4611686018427387905\r\nLockCookie: 0\r\n\r\n",
-            b"strange 423\nend\n",
-        ),
-        (
-            b"HTTP/1.1 423 Locked\r\nLockAge: 1\r\nLockAge: 1\r\nLockCookie: 0\r\n\r\n",
-            b"strange 423\nend\n",
-        ),
-        (b"HTTP/1.1 200 OK\r\n\r\n", b"done\nend\n"),
-        (
-            b"HTTP/1.0 200\r\nContent-Length: 1\r\n\r\nx",
-            b"strange 200\nend\n",
-        ),
-        (
-            b"HTTP/1.1 200 OK\r\nLockCookie: no\r\nActionFlags: 2\r\n\r\n",
-            b"done\nend\n",
-        ),
-        (
-            b"HTTP/1.1 200 OK\r\nTimeout: 1\r\nActionFlags: 2\r\n\r\n",
-            b"strange 200\nend\n",
-        ),
-        (
-            b"HTTP/1.1 200 OK\r\nTimeout: 1\r\nActionFlags: 0\r\nLockCookie: 0\r\n\r\n",
-            b"found 0 1 0 x\nend\n",
-        ),
-        (
-            b"HTTP/1.1 200 OK\r\nTimeout: 1\r\nTimeout: 1\r\n\r\n",
-            b"strange 200\nend\n",
-        ),
-        (
-            b"HTTP/1.1 200 OK\r\nTimeout: 0\r\n\r\n",
-            b"strange 200\nend\n",
-        ),
-        (
-            b"HTTP/1.1 200 OK\r\nTimeout: 525601\r\n\r\n",
-            b"strange 200\nend\n",
-        ),
-        (
-            b"HTTP/1.1 200 OK\r\nTimeout: 1\r\nLockCookie: 9223372036854775808\r\n\r\n",
-            b"strange 200\nend\n",
-        ),
-        (
-            b"HTTP/1.1 404 Gone\r\nTimeout: no\r\nContent-Length: 2\r\n\r\nzzHTTP/1.1 400 Bad\n\n",
-            b"missing\nbad\nend\n",
-        ),
-        (
-            b"HTTP/1.1 500 a\r\n\r\nHTTP/1.1 503 b\r\n\r\nHTTP/1.1 507 c\r\n\r\nHTTP/1.1 508 d\r\n\r\n",
-            b"keeper-fault\nno-memory\ncookies-out\nplaces-out\nend\n",
-        ),
-        (b"HTTP/1.1 200 OK\r\nContent-Length: 5\r\n\r\nab", b"cut\n"),
-        (
-            b"HTTP/1.1 200 OK\r\nContent-Length: 4194305\r\n\r\n",
-            b"broken\ncut\n",
-        ),
-        (b"HTTP/1.1 404 Gone\r\n\r\n\r\n", b"missing\ncut\n"),
-        (b"", b"end\n"),
-    ];
-    for (text, want) in rows {
+    for (text, want) in REPLIES {
         for size in SIZES {
             let told = replies_of(rt.alloc(), text, size)?;
             assert_eq!(rt; told.as_slice(), want, "at {size}");
@@ -121,20 +121,110 @@ fn send_reply(wire: &mut Vec<u8>, want: &mut Vec<u8>, reply: &Reply) -> Result<(
 }
 
 /// Adds the request's canonical text to a stream, and the line that is told of it.
-fn send_request(
-    wire: &mut Vec<u8>,
-    want: &mut Vec<u8>,
-    key: &[u8],
-    ask: Ask,
-    alloc: Global,
-) -> Result<(), NoMemory> {
-    let key = Bytes::copy(alloc, key)?;
-    let request = Request { key, ask };
-    write_request(wire, &request)?;
+fn send_request(wire: &mut Vec<u8>, want: &mut Vec<u8>, request: &Request) -> Result<(), NoMemory> {
+    write_request(wire, request)?;
     want.extend_from_slice(request.key.as_slice())?;
     want.push(b' ')?;
     spell_ask(want, &request.ask)?;
     want.push(b'\n')?;
+    Ok(())
+}
+
+/// Bodies, minutes, cookies (0 is none) and flags at the ends of their ranges.
+const CONTENTS: [(&[u8], u64, u64, bool); 4] = [
+    (b"", 1, 0, false),
+    (b"", 1, 1, true),
+    (b"\r\n", 525_600, 0, true),
+    (&[0; 300], 525_600, LAST_COOKIE, false),
+];
+
+fn named(cookie: u64) -> Option<u64> {
+    if cookie == 0 { None } else { Some(cookie) }
+}
+
+fn plain_reply(number: u8) -> Reply {
+    match number {
+        0 => Reply::Done,
+        1 => Reply::Locked { cookie: 0, age: 0 },
+        2 => Reply::Locked {
+            cookie: LAST_COOKIE,
+            age: LAST_AGE,
+        },
+        3 => Reply::Missing,
+        4 => Reply::Bad,
+        5 => Reply::KeeperFault,
+        6 => Reply::NoMemory,
+        7 => Reply::CookiesOut,
+        _ => Reply::PlacesOut,
+    }
+}
+
+fn plain_ask(number: u8) -> Ask {
+    match number {
+        0 => Ask::Read,
+        1 => Ask::Acquire,
+        2 => Ask::Release { cookie: 0 },
+        3 => Ask::Release {
+            cookie: LAST_COOKIE,
+        },
+        4 => Ask::Remove { cookie: None },
+        5 => Ask::Remove { cookie: Some(1) },
+        6 => Ask::Remove {
+            cookie: Some(LAST_COOKIE),
+        },
+        _ => Ask::Reset,
+    }
+}
+
+fn send_replies(alloc: Global, wire: &mut Vec<u8>, want: &mut Vec<u8>) -> Result<(), NoMemory> {
+    for (body, minutes, cookie, first) in CONTENTS {
+        let body = Bytes::copy(alloc, body)?;
+        let cookie = named(cookie);
+        let found = Reply::Found {
+            body,
+            minutes,
+            cookie,
+            first,
+        };
+        send_reply(wire, want, &found)?;
+    }
+    for number in 0..9u8 {
+        send_reply(wire, want, &plain_reply(number))?;
+    }
+    Ok(())
+}
+
+fn send_writes(alloc: Global, wire: &mut Vec<u8>, want: &mut Vec<u8>) -> Result<(), NoMemory> {
+    for (body, minutes, cookie, fresh) in CONTENTS {
+        let body = Bytes::copy(alloc, body)?;
+        let cookie = named(cookie);
+        let key = Bytes::copy(alloc, &[255; 1024])?;
+        let ask = Ask::Write {
+            body,
+            minutes,
+            fresh,
+            cookie,
+        };
+        send_request(wire, want, &Request { key, ask })?;
+    }
+    Ok(())
+}
+
+fn send_plain_asks(alloc: Global, wire: &mut Vec<u8>, want: &mut Vec<u8>) -> Result<(), NoMemory> {
+    for number in 0..8u8 {
+        let key = Bytes::copy(alloc, b"/")?;
+        let ask = plain_ask(number);
+        send_request(wire, want, &Request { key, ask })?;
+    }
+    Ok(())
+}
+
+fn send_keys(alloc: Global, wire: &mut Vec<u8>, want: &mut Vec<u8>) -> Result<(), NoMemory> {
+    for byte in 0..=255u8 {
+        let key = Bytes::copy(alloc, &[byte])?;
+        let ask = Ask::Read;
+        send_request(wire, want, &Request { key, ask })?;
+    }
     Ok(())
 }
 
@@ -143,41 +233,7 @@ fn replies_are_read_as_they_were_written(rt: HostRuntime) -> Result<(), Fail> {
     let alloc = rt.alloc();
     let mut wire = Vec::new(alloc);
     let mut want = Vec::new(alloc);
-    for (body, minutes, cookie, first) in [
-        (Bytes::copy(alloc, b"")?, 1, None, false),
-        (Bytes::copy(alloc, b"")?, 1, Some(1), true),
-        (Bytes::copy(alloc, b"\r\n")?, 525_600, None, true),
-        (
-            Bytes::copy(alloc, &[0; 300])?,
-            525_600,
-            Some(LAST_COOKIE),
-            false,
-        ),
-    ] {
-        let found = Reply::Found {
-            body,
-            minutes,
-            cookie,
-            first,
-        };
-        send_reply(&mut wire, &mut want, &found)?;
-    }
-    for reply in &[
-        Reply::Done,
-        Reply::Locked { cookie: 0, age: 0 },
-        Reply::Locked {
-            cookie: LAST_COOKIE,
-            age: LAST_AGE,
-        },
-        Reply::Missing,
-        Reply::Bad,
-        Reply::KeeperFault,
-        Reply::NoMemory,
-        Reply::CookiesOut,
-        Reply::PlacesOut,
-    ] {
-        send_reply(&mut wire, &mut want, reply)?;
-    }
+    send_replies(alloc, &mut wire, &mut want)?;
     want.extend_from_slice(b"end\n")?;
     for size in SIZES {
         let told = replies_of(alloc, &wire, size)?;
@@ -191,78 +247,13 @@ fn requests_are_read_as_they_were_written(rt: HostRuntime) -> Result<(), Fail> {
     let alloc = rt.alloc();
     let mut wire = Vec::new(alloc);
     let mut want = Vec::new(alloc);
-    for (body, minutes, cookie, fresh) in [
-        (Bytes::copy(alloc, b"")?, 1, None, false),
-        (Bytes::copy(alloc, b"")?, 1, Some(1), true),
-        (Bytes::copy(alloc, b"\r\n")?, 525_600, None, true),
-        (
-            Bytes::copy(alloc, &[0; 300])?,
-            525_600,
-            Some(LAST_COOKIE),
-            false,
-        ),
-    ] {
-        let write = Ask::Write {
-            body,
-            minutes,
-            fresh,
-            cookie,
-        };
-        send_request(&mut wire, &mut want, &[255; 1024], write, alloc)?;
-    }
-    for ask in [
-        Ask::Read,
-        Ask::Acquire,
-        Ask::Release { cookie: 0 },
-        Ask::Release {
-            cookie: LAST_COOKIE,
-        },
-        Ask::Remove { cookie: None },
-        Ask::Remove { cookie: Some(1) },
-        Ask::Remove {
-            cookie: Some(LAST_COOKIE),
-        },
-        Ask::Reset,
-    ] {
-        send_request(&mut wire, &mut want, b"/", ask, alloc)?;
-    }
-    for byte in 0..=255u8 {
-        send_request(&mut wire, &mut want, &[byte], Ask::Read, alloc)?;
-    }
+    send_writes(alloc, &mut wire, &mut want)?;
+    send_plain_asks(alloc, &mut wire, &mut want)?;
+    send_keys(alloc, &mut wire, &mut want)?;
     want.extend_from_slice(b"end\n")?;
     for size in SIZES {
         let told = requests_of(alloc, &wire, size)?;
         assert!(rt; told.as_slice() == want.as_slice(), "at {size}");
     }
-    Ok(())
-}
-
-#[test]
-fn the_longest_bodies_are_read_as_they_were_written(rt: HostRuntime) -> Result<(), Fail> {
-    let alloc = rt.alloc();
-    let mut wire = Vec::new(alloc);
-    let mut want = Vec::new(alloc);
-    let found = Reply::Found {
-        body: Bytes::adopt(vec![in alloc; b'x'; LONGEST_BODY]?),
-        minutes: 20,
-        cookie: None,
-        first: false,
-    };
-    send_reply(&mut wire, &mut want, &found)?;
-    want.extend_from_slice(b"end\n")?;
-    let told = replies_of(alloc, &wire, 16_384)?;
-    assert!(rt; told.as_slice() == want.as_slice());
-    let mut wire = Vec::new(alloc);
-    let mut want = Vec::new(alloc);
-    let write = Ask::Write {
-        body: Bytes::adopt(vec![in alloc; b'x'; LONGEST_BODY]?),
-        minutes: 20,
-        fresh: false,
-        cookie: None,
-    };
-    send_request(&mut wire, &mut want, b"/", write, alloc)?;
-    want.extend_from_slice(b"end\n")?;
-    let told = requests_of(alloc, &wire, 16_384)?;
-    assert!(rt; told.as_slice() == want.as_slice());
     Ok(())
 }
