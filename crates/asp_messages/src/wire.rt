@@ -37,3 +37,9 @@ pub fn one_reply_stream()
 pub fn waiting_reply_is_short()
     ensures { (bytes : List ℕ) → IsWaiting IsReplyHead response_fields bytes → length bytes < most_head + most_body }
 {}
+
+/// What is spelled is in range.
+pub fn spelled_is_in_range()
+    ensures requests { (bytes : List ℕ) (r : Request) → SpellsRequest bytes (Fit r) → RequestFits r }
+    ensures replies { (bytes : List ℕ) (r : Reply) → SpellsReply bytes (reply r) → ReplyFits r }
+{}
