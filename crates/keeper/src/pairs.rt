@@ -1,12 +1,12 @@
 //! A list of pairs of key and item, as a map.
 ghost use Rattle.std.specs.Prelude.{◌≡◌, Some, None, IfOk, IfSome, IsOk, IsSome, OnOk, OnErr, MatchOption, option_copied};
 ghost use Rattle.keeper.specs.Items.{Sets};
-ghost use Rattle.keeper.specs.Pairs.{IsFirstOf, IsMap, IsPlaceOf, item_at};
+ghost use Rattle.keeper.specs.Pairs.{IsMap, IsPlaceOf, item_at};
 ghost use Rattle.asp_messages.specs.Ranges.{KeyFits};
 ghost use Rattle.session_machine.specs.Liveness.{ItemFits};
 
 use asp_base::{Bytes, NoMemory};
-use session_machine::{Item, expiry};
+use session_machine::Item;
 use std::alloc::Global;
 
 /// The item of the key.

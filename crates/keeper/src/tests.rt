@@ -1,5 +1,5 @@
 //! Each call at its worked values, through the trait at both keepers.
-ghost use Rattle.std.specs.Prelude.{◌≡◌, ◌≤◌, length, IfOk};
+ghost use Rattle.std.specs.Prelude.{◌≡◌, IfOk};
 ghost use Rattle.asp_messages.specs.Ranges.{KeyFits};
 ghost use Rattle.session_machine.specs.Liveness.{ItemFits};
 ghost use Rattle.keeper.specs.Items.{IsEmptyTold};
@@ -10,12 +10,30 @@ use session_machine::Item;
 use std::alloc::Global;
 use std::process::Abort;
 
-fn item(alloc: Global, content: &[u8]) -> Result<Item, NoMemory>
-    requires { length content.now ≤ 4194304 }
+/// A call, with the letter of its key and one byte of content. `NONE` stands for no key or no item.
+#[derive(Clone, Copy)]
+enum Step {
+    Put(u8, u8),
+    Cut(u8),
+    Has(u8, u8),
+    Due(u64, u8),
+    Faults(u64),
+}
+
+const NONE: u8 = b'-';
+
+fn key(alloc: Global, letter: u8) -> Result<Bytes, NoMemory>
+    ensures { IfOk result KeyFits }
+{
+    Bytes::copy(alloc, &[b'/', letter])
+}
+
+/// An item of one minute, touched at 0.
+fn item(alloc: Global, content: u8) -> Result<Item, NoMemory>
     ensures { IfOk result ItemFits }
 {
     Ok(Item {
-        body: Bytes::copy(alloc, content)?,
+        body: Bytes::copy(alloc, &[content])?,
         minutes: 1,
         fresh: false,
         holder: None,
@@ -26,95 +44,112 @@ fn item(alloc: Global, content: &[u8]) -> Result<Item, NoMemory>
 fn put<K: Keeper>(
     alloc: Global,
     keeper: &mut K,
-    key: &[u8],
-    content: &[u8],
-) -> Result<(), KeepError>
-    requires key { KeyFits key.now }
-    requires content { length content.now ≤ 4194304 }
-{
+    letter: u8,
+    content: u8,
+) -> Result<bool, KeepError> {
+    let key = key(alloc, letter)?;
     let item = item(alloc, content)?;
-    let key = Bytes::copy(alloc, key)?;
-    keeper.put(&key, item)
+    keeper.put(&key, item)?;
+    Ok(true)
 }
 
-fn cut<K: Keeper>(alloc: Global, keeper: &mut K, key: &[u8]) -> Result<(), KeepError>
-    requires { KeyFits key.now }
-{
-    let key = Bytes::copy(alloc, key)?;
-    keeper.cut(&key)
+fn cut<K: Keeper>(alloc: Global, keeper: &mut K, letter: u8) -> Result<bool, KeepError> {
+    keeper.cut(&key(alloc, letter)?)?;
+    Ok(true)
 }
 
-/// Whether the item of the key has this content; an empty one stands for no item.
 fn has<K: Keeper>(
     alloc: Global,
     keeper: &mut K,
-    key: &[u8],
-    content: &[u8],
-) -> Result<bool, KeepError>
-    requires { KeyFits key.now }
-{
-    let key = Bytes::copy(alloc, key)?;
-    match keeper.get(&key)? {
-        Some(item) => Ok(item.body.as_slice() == content),
-        None => Ok(content.is_empty()),
+    letter: u8,
+    content: u8,
+) -> Result<bool, KeepError> {
+    match keeper.get(&key(alloc, letter)?)? {
+        Some(item) => Ok(item.body.as_slice() == [content].as_slice()),
+        None => Ok(content == NONE),
     }
 }
 
-/// Whether this key is due at the moment; an empty one stands for none.
-fn is_due<K: Keeper>(keeper: &mut K, t: u64, key: &[u8]) -> Result<bool, KeepError> {
+fn is_due<K: Keeper>(keeper: &mut K, t: u64, letter: u8) -> Result<bool, KeepError> {
     match keeper.due(t)? {
-        Some(found) => Ok(found.as_slice() == key),
-        None => Ok(key.is_empty()),
+        Some(found) => Ok(found.as_slice() == [b'/', letter].as_slice()),
+        None => Ok(letter == NONE),
+    }
+}
+
+/// Whether the call answers so.
+fn does<K: Keeper>(alloc: Global, keeper: &mut K, step: Step) -> Result<bool, KeepError> {
+    match step {
+        Step::Put(letter, content) => put(alloc, keeper, letter, content),
+        Step::Cut(letter) => cut(alloc, keeper, letter),
+        Step::Has(letter, content) => has(alloc, keeper, letter, content),
+        Step::Due(t, letter) => is_due(keeper, t, letter),
+        Step::Faults(count) => Ok(keeper.faults() == count),
     }
 }
 
 // The conditions are those under which a run takes a keeper.
-fn expires_in_order<K: Keeper + Drop>(rt: &impl Abort, alloc: Global, mut keeper: K)
+fn walk<K: Keeper + Drop>(
+    rt: &impl Abort,
+    alloc: Global,
+    mut keeper: K,
+    steps: &[(Step, Result<bool, KeepError>)],
+)
     requires count { K.count keeper ≡ 0 }
     requires empty { IsEmptyTold (K.told keeper) }
 {
-    assert_eq!(rt; is_due(&mut keeper, 60_000, b""), Ok(true));
-    assert_eq!(rt; put(alloc, &mut keeper, b"/b", b"x"), Ok(()));
-    assert_eq!(rt; put(alloc, &mut keeper, b"/a", b"old"), Ok(()));
-    assert_eq!(rt; put(alloc, &mut keeper, b"/a", b"y"), Ok(()));
-    assert_eq!(rt; has(alloc, &mut keeper, b"/a", b"y"), Ok(true));
-    assert_eq!(rt; has(alloc, &mut keeper, b"/b", b"x"), Ok(true));
-    assert_eq!(rt; is_due(&mut keeper, 59_999, b""), Ok(true));
-    assert_eq!(rt; is_due(&mut keeper, 60_000, b"/a"), Ok(true));
-    assert_eq!(rt; cut(alloc, &mut keeper, b"/a"), Ok(()));
-    assert_eq!(rt; has(alloc, &mut keeper, b"/a", b""), Ok(true));
-    assert_eq!(rt; is_due(&mut keeper, 60_000, b"/b"), Ok(true));
-    assert_eq!(rt; cut(alloc, &mut keeper, b"/b"), Ok(()));
-    assert_eq!(rt; is_due(&mut keeper, 60_000, b""), Ok(true));
-    assert_eq!(rt; keeper.faults(), 0);
+    for (step, want) in steps {
+        let answer = does(alloc, &mut keeper, *step);
+        assert!(rt; answer == *want);
+    }
 }
+
+const IN_ORDER: [(Step, Result<bool, KeepError>); 14] = [
+    (Step::Due(60_000, NONE), Ok(true)),
+    (Step::Put(b'b', b'x'), Ok(true)),
+    (Step::Put(b'a', b'z'), Ok(true)),
+    (Step::Put(b'a', b'y'), Ok(true)),
+    (Step::Has(b'a', b'y'), Ok(true)),
+    (Step::Has(b'b', b'x'), Ok(true)),
+    (Step::Due(59_999, NONE), Ok(true)),
+    (Step::Due(60_000, b'a'), Ok(true)),
+    (Step::Cut(b'a'), Ok(true)),
+    (Step::Has(b'a', NONE), Ok(true)),
+    (Step::Due(60_000, b'b'), Ok(true)),
+    (Step::Cut(b'b'), Ok(true)),
+    (Step::Due(60_000, NONE), Ok(true)),
+    (Step::Faults(0), Ok(true)),
+];
 
 #[test]
 fn items_expire_in_order(rt: HostRuntime) {
     let alloc = rt.alloc();
-    expires_in_order(&rt, alloc, ListKeeper::new(alloc));
-    let none = Vec::new(alloc);
-    let keeper = FaultyKeeper::new(ListKeeper::new(alloc), none);
-    expires_in_order(&rt, alloc, keeper);
+    walk(&rt, alloc, ListKeeper::new(alloc), &IN_ORDER);
+    let keeper = FaultyKeeper::new(ListKeeper::new(alloc), Vec::new(alloc));
+    walk(&rt, alloc, keeper, &IN_ORDER);
 }
 
-// The inner keeper's own failing call is the fifth that reaches it.
+// Calls 1, 2 and 7 are listed, and call 4 of those that reach the inner keeper.
+const FAILING: [(Step, Result<bool, KeepError>); 11] = [
+    (Step::Put(b'a', b'x'), Ok(true)),
+    (Step::Put(b'a', b'y'), Err(KeepError::Fault)),
+    (Step::Cut(b'a'), Err(KeepError::Fault)),
+    (Step::Has(b'a', b'x'), Ok(true)),
+    (Step::Faults(2), Ok(true)),
+    (Step::Due(60_000, b'a'), Ok(true)),
+    (Step::Cut(b'a'), Ok(true)),
+    (Step::Due(60_000, NONE), Err(KeepError::Fault)),
+    (Step::Has(b'a', NONE), Err(KeepError::Fault)),
+    (Step::Faults(4), Ok(true)),
+    (Step::Has(b'a', NONE), Ok(true)),
+];
+
 #[test]
 fn listed_calls_fail_and_change_nothing(rt: HostRuntime) {
     let alloc = rt.alloc();
-    let inner_fails = vec![in alloc; 4].expect(&rt, "memory");
+    let fails = vec![in alloc; 4].expect(&rt, "memory");
+    let inner = FaultyKeeper::new(ListKeeper::new(alloc), fails);
     let fails = vec![in alloc; 1, 2, 7].expect(&rt, "memory");
-    let inner = FaultyKeeper::new(ListKeeper::new(alloc), inner_fails);
-    let mut keeper = FaultyKeeper::new(inner, fails);
-    assert_eq!(rt; put(alloc, &mut keeper, b"/a", b"x"), Ok(()));
-    assert_eq!(rt; put(alloc, &mut keeper, b"/a", b"y"), Err(KeepError::Fault));
-    assert_eq!(rt; cut(alloc, &mut keeper, b"/a"), Err(KeepError::Fault));
-    assert_eq!(rt; has(alloc, &mut keeper, b"/a", b"x"), Ok(true));
-    assert_eq!(rt; keeper.faults(), 2);
-    assert_eq!(rt; is_due(&mut keeper, 60_000, b"/a"), Ok(true));
-    assert_eq!(rt; cut(alloc, &mut keeper, b"/a"), Ok(()));
-    assert_eq!(rt; is_due(&mut keeper, 60_000, b""), Err(KeepError::Fault));
-    assert_eq!(rt; has(alloc, &mut keeper, b"/a", b""), Err(KeepError::Fault));
-    assert_eq!(rt; keeper.faults(), 4);
-    assert_eq!(rt; has(alloc, &mut keeper, b"/a", b""), Ok(true));
+    let keeper = FaultyKeeper::new(inner, fails);
+    walk(&rt, alloc, keeper, &FAILING);
 }
