@@ -41,3 +41,6 @@ fn main(rt: HostRuntime) -> io::Result<ExitCode> {
     );
     Ok(ExitCode::from(ran.status))
 }
+
+#[cfg(test)]
+mod tests;

@@ -1,0 +1,142 @@
+//! The words of the command line, and the host's source and sink.
+use super::{DONE, FOUND, WRITE_AND_READ, sink, source};
+use crate::commands::command;
+use asp_base::{Failed, HostSink, HostSource, Sink, Source};
+use keeper::ListKeeper;
+use std::alloc::Global;
+use std::io::{self, Cursor, Read, Write};
+use std::test::Fail;
+
+/// The words as the command line gives them.
+fn words_of(alloc: Global, words: &[&str]) -> Result<Vec<String>, Fail> {
+    let mut given = Vec::new(alloc);
+    for word in words {
+        given.push(String::from_str(alloc, word)?)?;
+    }
+    Ok(given)
+}
+
+#[test]
+fn words_that_are_no_command_are_refused_before_anything_is_read(
+    rt: HostRuntime,
+) -> Result<(), Fail> {
+    let alloc = rt.alloc();
+    for words in [
+        [].as_slice(),
+        ["pipe"].as_slice(),
+        ["pipe", "0", "1000", "0"].as_slice(),
+        ["pipe", "0", "1000"].as_slice(),
+        ["pipe", "0", "1000", "1", "1"].as_slice(),
+        ["pipe", "0", "1000", "9223372036854775808"].as_slice(),
+        ["pipe", "4611686018427387905", "0", "1"].as_slice(),
+        ["Pipe", "0", "1000", "1"].as_slice(),
+        ["id", "00"].as_slice(),
+        ["id"].as_slice(),
+        ["--help"].as_slice(),
+    ] {
+        let given = words_of(alloc, words)?;
+        let mut input = source(alloc, WRITE_AND_READ, 16_384, &[])?;
+        let mut output = sink(alloc, &[])?;
+        let ran = command(
+            alloc,
+            &given,
+            &mut input,
+            &mut output,
+            ListKeeper::new(alloc),
+        );
+        assert_eq!(rt; ran.status, 2);
+        assert_eq!(rt; output.taken(), b"".as_slice());
+        let mut buf = [0; 64];
+        assert_eq!(rt; input.read(&mut buf), Ok(58));
+    }
+    Ok(())
+}
+
+#[test]
+fn pipe_and_id_write_what_they_say(rt: HostRuntime) -> Result<(), Fail> {
+    let alloc = rt.alloc();
+    let given = words_of(alloc, &["pipe", "0", "001000", "1"])?;
+    let mut input = source(alloc, WRITE_AND_READ, 16_384, &[])?;
+    let mut output = sink(alloc, &[])?;
+    let ran = command(
+        alloc,
+        &given,
+        &mut input,
+        &mut output,
+        ListKeeper::new(alloc),
+    );
+    assert_eq!(rt; ran.status, 0);
+    assert_eq!(rt; &output.taken()[..38], DONE);
+    assert_eq!(rt; &output.taken()[38..], FOUND);
+    for (digits, text) in [
+        (
+            "010000000000000000000000000000",
+            "baaaaaaaaaaaaaaaaaaaaaaa\n",
+        ),
+        (
+            "ffffffffffffffffffffffffffffff",
+            "555555555555555555555555\n",
+        ),
+        (
+            "FFFFFFFFFFFFFFFffffffffffffffF",
+            "555555555555555555555555\n",
+        ),
+    ] {
+        let given = words_of(alloc, &["id", digits])?;
+        let mut input = source(alloc, WRITE_AND_READ, 16_384, &[])?;
+        let mut output = sink(alloc, &[])?;
+        let ran = command(
+            alloc,
+            &given,
+            &mut input,
+            &mut output,
+            ListKeeper::new(alloc),
+        );
+        assert_eq!(rt; ran.status, 0);
+        assert_eq!(rt; output.taken(), text.as_bytes());
+    }
+    Ok(())
+}
+
+/// A reader and a writer that fail.
+#[derive(Drop)]
+struct Broken;
+
+impl Read for Broken {
+    fn read(&mut self, _buf: &mut [u8]) -> io::Result<usize> {
+        Err(io::Error::from(io::ErrorKind::Other))
+    }
+}
+
+impl Write for Broken {
+    fn write(&mut self, _buf: &[u8]) -> io::Result<usize> {
+        Err(io::Error::from(io::ErrorKind::Other))
+    }
+
+    fn flush(&mut self) -> io::Result<()> {
+        Ok(())
+    }
+}
+
+#[test]
+fn the_source_of_the_host_gives_the_bytes_of_its_reader(rt: HostRuntime) -> Result<(), Fail> {
+    let mut buf = [0; 4];
+    let mut input = HostSource::new(b"abcde".as_slice());
+    assert_eq!(rt; input.read(&mut buf), Ok(4));
+    assert_eq!(rt; buf.as_slice(), b"abcd".as_slice());
+    assert_eq!(rt; input.read(&mut buf), Ok(1));
+    assert_eq!(rt; input.read(&mut buf), Ok(0));
+    assert_eq!(rt; HostSource::new(Broken).read(&mut buf), Err(Failed));
+    Ok(())
+}
+
+#[test]
+fn the_sink_of_the_host_hands_its_bytes_to_its_writer(rt: HostRuntime) -> Result<(), Fail> {
+    let mut room = [0; 4];
+    let mut output = HostSink::new(Cursor::new(room.as_mut_slice()));
+    assert_eq!(rt; output.write(b"abcde"), Ok(4));
+    assert_eq!(rt; output.write(b"e"), Err(Failed));
+    assert_eq!(rt; output.write(b""), Ok(0));
+    assert_eq!(rt; HostSink::new(Broken).write(b"a"), Err(Failed));
+    Ok(())
+}

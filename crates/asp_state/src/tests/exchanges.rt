@@ -1,0 +1,311 @@
+//! Exchanges over one connection: what is asked, and what is answered.
+use super::{PIPE, run_text, spelled};
+use crate::pipe::Pipe;
+use std::test::Fail;
+
+/// Requests, one after the other, and their replies.
+#[test]
+fn requests_are_answered_in_order(rt: HostRuntime) -> Result<(), Fail> {
+    let alloc = rt.alloc();
+    for (step, first, text, replies) in [
+        (1000, 1, b"".as_slice(), ""),
+        (
+            1000,
+            1,
+            b"GET /none HTTP/1.1\r\n\r\n".as_slice(),
+            "missing\n",
+        ),
+        (
+            1000,
+            1,
+            b"PUT /a HTTP/1.1\r\nContent-Length: 1\r\n\r\nxGET /a HTTP/1.1\r\nExclusive: acquire\r\n\r\nGET /a HTTP/1.1\r\nExclusive: acquire\r\n\r\nGET /a HTTP/1.1\r\n\r\n".as_slice(),
+            "done\nfound 1 20 0 x78\nlocked 1 1\nlocked 1 2\n",
+        ),
+        (
+            1000,
+            1,
+            b"PUT /a HTTP/1.1\r\nContent-Length: 1\r\n\r\nxGET /a HTTP/1.1\r\nExclusive: acquire\r\n\r\nGET /a HTTP/1.1\r\nExclusive: acquire\r\n\r\nGET /a HTTP/1.1\r\n\r\nGET /a HTTP/1.1\r\nExclusive: release\r\nLockCookie: 1\r\n\r\nGET /a HTTP/1.1\r\nExclusive: acquire\r\n\r\n".as_slice(),
+            "done\nfound 1 20 0 x78\nlocked 1 1\nlocked 1 2\ndone\nfound 3 20 0 x78\n",
+        ),
+        (
+            1000,
+            1,
+            b"PUT /a HTTP/1.1\r\nContent-Length: 1\r\n\r\nxGET /a HTTP/1.1\r\nExclusive: acquire\r\n\r\nPUT /a HTTP/1.1\r\nLockCookie: 2\r\nContent-Length: 1\r\n\r\nzPUT /a HTTP/1.1\r\nLockCookie: 1\r\nContent-Length: 1\r\n\r\nyGET /a HTTP/1.1\r\n\r\n".as_slice(),
+            "done\nfound 1 20 0 x78\nlocked 1 1\ndone\nfound 0 20 0 x79\n",
+        ),
+        (
+            1000,
+            1,
+            b"PUT /a HTTP/1.1\r\nContent-Length: 1\r\n\r\nxGET /a HTTP/1.1\r\nExclusive: acquire\r\n\r\nPUT /a HTTP/1.1\r\nLockCookie: 2\r\nContent-Length: 1\r\n\r\nzPUT /a HTTP/1.1\r\nLockCookie: 1\r\nContent-Length: 1\r\n\r\nyGET /a HTTP/1.1\r\n\r\nPUT /a HTTP/1.1\r\nLockCookie: 1\r\nContent-Length: 1\r\n\r\nzGET /a HTTP/1.1\r\n\r\n".as_slice(),
+            "done\nfound 1 20 0 x78\nlocked 1 1\ndone\nfound 0 20 0 x79\nlocked 0 0\nfound 0 20 0 x79\n",
+        ),
+        (
+            1000,
+            1,
+            b"PUT /a HTTP/1.1\r\nContent-Length: 1\r\n\r\nxGET /a HTTP/1.1\r\nExclusive: acquire\r\n\r\nDELETE /a HTTP/1.1\r\nLockCookie: 1\r\n\r\nPUT /a HTTP/1.1\r\nContent-Length: 1\r\n\r\nyDELETE /a HTTP/1.1\r\nLockCookie: 1\r\n\r\nGET /a HTTP/1.1\r\n\r\n".as_slice(),
+            "done\nfound 1 20 0 x78\ndone\ndone\nlocked 0 0\nfound 0 20 0 x79\n",
+        ),
+        (
+            1000,
+            1,
+            b"PUT /a HTTP/1.1\r\nExtraFlags: 1\r\n\r\nGET /a HTTP/1.1\r\n\r\nGET /a HTTP/1.1\r\n\r\nPUT /a HTTP/1.1\r\nExtraFlags: 1\r\nContent-Length: 1\r\n\r\nzGET /a HTTP/1.1\r\n\r\n".as_slice(),
+            "done\nfound 0 20 1 x\nfound 0 20 0 x\ndone\nfound 0 20 0 x\n",
+        ),
+        (
+            60000,
+            1,
+            b"PUT /a HTTP/1.1\r\nTimeout: 1\r\nContent-Length: 1\r\n\r\nxGET /a HTTP/1.1\r\n\r\n".as_slice(),
+            "done\nmissing\n",
+        ),
+        (
+            59999,
+            1,
+            b"PUT /a HTTP/1.1\r\nTimeout: 1\r\nContent-Length: 1\r\n\r\nxGET /a HTTP/1.1\r\n\r\n".as_slice(),
+            "done\nfound 0 1 0 x78\n",
+        ),
+        (
+            59999,
+            1,
+            b"PUT /a HTTP/1.1\r\nTimeout: 1\r\n\r\nGET /a HTTP/1.1\r\nExclusive: acquire\r\n\r\nHEAD /a HTTP/1.1\r\n\r\nHEAD /a HTTP/1.1\r\n\r\nGET /a HTTP/1.1\r\nExclusive: release\r\nLockCookie: 1\r\n\r\nGET /a HTTP/1.1\r\n\r\n".as_slice(),
+            "done\nfound 1 1 0 x\ndone\ndone\ndone\nfound 0 1 0 x\n",
+        ),
+        (
+            59999,
+            1,
+            b"PUT /a HTTP/1.1\r\nTimeout: 1\r\n\r\nGET /a HTTP/1.1\r\nExclusive: acquire\r\n\r\nGET /a HTTP/1.1\r\n\r\nHEAD /a HTTP/1.1\r\n\r\n".as_slice(),
+            "done\nfound 1 1 0 x\nlocked 1 59\nmissing\n",
+        ),
+        (
+            1000,
+            1,
+            b"PUT /LM/W3SVC/1/ROOT(q)/id HTTP/1.1\r\nHost: web1\r\nTimeout: 20\r\nContent-Length: 3\r\n\r\nabcGET %2fLM%2fW3SVC%2f1%2fROOT(q)%2fid HTTP/1.1\r\nHost: web1\r\nExclusive: acquire\r\n\r\n".as_slice(),
+            "done\nfound 1 20 0 x616263\n",
+        ),
+        (
+            1000,
+            1,
+            b"GET /a HTTP/1.1\r\nExclusive: release\r\n\r\nGET /a HTTP/1.1\r\n\r\n".as_slice(),
+            "bad\nmissing\n",
+        ),
+        (
+            1000,
+            9223372036854775807,
+            b"PUT /a HTTP/1.1\r\nContent-Length: 1\r\n\r\nxPUT /b HTTP/1.1\r\nContent-Length: 1\r\n\r\nxGET /a HTTP/1.1\r\nExclusive: acquire\r\n\r\nGET /b HTTP/1.1\r\nExclusive: acquire\r\n\r\nGET /b HTTP/1.1\r\n\r\n".as_slice(),
+            "done\ndone\nfound 9223372036854775807 20 0 x78\ncookies-out\nfound 0 20 0 x78\n",
+        ),
+        (
+            1000,
+            1,
+            b"HEAD /a HTTP/1.1\r\nContent-Length: 2\r\n\r\nzzGET /a HTTP/1.0\r\n\r\n".as_slice(),
+            "missing\nmissing\n",
+        ),
+        (
+            1000,
+            1,
+            b"POST /a HTTP/1.1\r\n\r\nPUT /a HTTP/1.1\r\nTimeout: 0\r\n\r\nPUT /a HTTP/1.1\r\nTimeout: 525601\r\n\r\nGET /a HTTP/1.1\r\nExclusive: acquire\r\nexclusive: acquire\r\n\r\nGET /a HTTP/1.1\r\n\r\n".as_slice(),
+            "bad\nbad\nbad\nbad\nmissing\n",
+        ),
+        (
+            1000,
+            1,
+            b"PUT /a HTTP/1.1\r\ntimeout: 00525600\r\nLockCookie: 0\r\n\r\nGET /a HTTP/1.1\r\n\r\n".as_slice(),
+            "done\nfound 0 525600 0 x\n",
+        ),
+    ] {
+        let pipe = Pipe {
+            step,
+            first,
+            ..PIPE
+        };
+        for piece in [1, 16_384] {
+            let (status, output) = run_text(alloc, pipe, text, piece)?;
+            let lines = spelled(alloc, output.taken())?;
+            assert_eq!(rt; status, 0, "the exchange that ends {replies}");
+            assert_eq!(rt; lines.as_slice(), replies.as_bytes(), "wanted {replies}");
+        }
+    }
+    Ok(())
+}
+
+/// Each ask where the item is absent, expired, free, free and uninitialised, and under the lock of
+/// cookie 1; and what a plain read finds then.
+#[test]
+fn each_ask_finds_each_item_by_the_table(rt: HostRuntime) -> Result<(), Fail> {
+    let alloc = rt.alloc();
+    let items = [
+        (1000, b"".as_slice(), ""),
+        (
+            60_000,
+            b"PUT /a HTTP/1.1\r\nTimeout: 1\r\nContent-Length: 1\r\n\r\nx".as_slice(),
+            "done\n",
+        ),
+        (
+            1000,
+            b"PUT /a HTTP/1.1\r\nContent-Length: 1\r\n\r\nx".as_slice(),
+            "done\n",
+        ),
+        (
+            1000,
+            b"PUT /a HTTP/1.1\r\nExtraFlags: 1\r\nContent-Length: 1\r\n\r\nx".as_slice(),
+            "done\n",
+        ),
+        (
+            1000,
+            b"PUT /a HTTP/1.1\r\nContent-Length: 1\r\n\r\nxGET /a HTTP/1.1\r\nExclusive: acquire\r\n\r\n".as_slice(),
+            "done\nfound 1 20 0 x78\n",
+        ),
+    ];
+    for (ask, replies) in [
+        (
+            b"GET /a HTTP/1.1\r\n\r\n".as_slice(),
+            [
+                "missing\nmissing\n",
+                "missing\nmissing\n",
+                "found 0 20 0 x78\nfound 0 20 0 x78\n",
+                "found 0 20 1 x78\nfound 0 20 0 x78\n",
+                "locked 1 1\nlocked 1 2\n",
+            ],
+        ),
+        (
+            b"GET /a HTTP/1.1\r\nExclusive: acquire\r\n\r\n".as_slice(),
+            [
+                "missing\nmissing\n",
+                "missing\nmissing\n",
+                "found 1 20 0 x78\nlocked 1 1\n",
+                "found 1 20 1 x78\nlocked 1 1\n",
+                "locked 1 1\nlocked 1 2\n",
+            ],
+        ),
+        (
+            b"GET /a HTTP/1.1\r\nExclusive: release\r\nLockCookie: 1\r\n\r\n".as_slice(),
+            [
+                "missing\nmissing\n",
+                "missing\nmissing\n",
+                "done\nfound 0 20 0 x78\n",
+                "done\nfound 0 20 1 x78\n",
+                "done\nfound 0 20 0 x78\n",
+            ],
+        ),
+        (
+            b"GET /a HTTP/1.1\r\nExclusive: release\r\nLockCookie: 9\r\n\r\n".as_slice(),
+            [
+                "missing\nmissing\n",
+                "missing\nmissing\n",
+                "done\nfound 0 20 0 x78\n",
+                "done\nfound 0 20 1 x78\n",
+                "locked 1 1\nlocked 1 2\n",
+            ],
+        ),
+        (
+            b"PUT /a HTTP/1.1\r\nContent-Length: 1\r\n\r\ny".as_slice(),
+            [
+                "done\nfound 0 20 0 x79\n",
+                "done\nfound 0 20 0 x79\n",
+                "done\nfound 0 20 0 x79\n",
+                "done\nfound 0 20 0 x79\n",
+                "locked 1 1\nlocked 1 2\n",
+            ],
+        ),
+        (
+            b"PUT /a HTTP/1.1\r\nExtraFlags: 1\r\nContent-Length: 1\r\n\r\ny".as_slice(),
+            [
+                "done\nfound 0 20 1 x79\n",
+                "done\nfound 0 20 1 x79\n",
+                "done\nfound 0 20 0 x78\n",
+                "done\nfound 0 20 1 x78\n",
+                "done\nlocked 1 2\n",
+            ],
+        ),
+        (
+            b"PUT /a HTTP/1.1\r\nLockCookie: 1\r\nContent-Length: 1\r\n\r\ny".as_slice(),
+            [
+                "missing\nmissing\n",
+                "missing\nmissing\n",
+                "locked 0 0\nfound 0 20 0 x78\n",
+                "locked 0 0\nfound 0 20 1 x78\n",
+                "done\nfound 0 20 0 x79\n",
+            ],
+        ),
+        (
+            b"PUT /a HTTP/1.1\r\nExtraFlags: 1\r\nLockCookie: 1\r\nContent-Length: 1\r\n\r\ny".as_slice(),
+            [
+                "missing\nmissing\n",
+                "missing\nmissing\n",
+                "locked 0 0\nfound 0 20 0 x78\n",
+                "locked 0 0\nfound 0 20 1 x78\n",
+                "done\nfound 0 20 1 x79\n",
+            ],
+        ),
+        (
+            b"PUT /a HTTP/1.1\r\nLockCookie: 9\r\nContent-Length: 1\r\n\r\ny".as_slice(),
+            [
+                "missing\nmissing\n",
+                "missing\nmissing\n",
+                "locked 0 0\nfound 0 20 0 x78\n",
+                "locked 0 0\nfound 0 20 1 x78\n",
+                "locked 1 1\nlocked 1 2\n",
+            ],
+        ),
+        (
+            b"DELETE /a HTTP/1.1\r\n\r\n".as_slice(),
+            [
+                "missing\nmissing\n",
+                "missing\nmissing\n",
+                "done\nmissing\n",
+                "done\nmissing\n",
+                "locked 1 1\nlocked 1 2\n",
+            ],
+        ),
+        (
+            b"DELETE /a HTTP/1.1\r\nLockCookie: 1\r\n\r\n".as_slice(),
+            [
+                "missing\nmissing\n",
+                "missing\nmissing\n",
+                "locked 0 0\nfound 0 20 0 x78\n",
+                "locked 0 0\nfound 0 20 1 x78\n",
+                "done\nmissing\n",
+            ],
+        ),
+        (
+            b"DELETE /a HTTP/1.1\r\nLockCookie: 9\r\n\r\n".as_slice(),
+            [
+                "missing\nmissing\n",
+                "missing\nmissing\n",
+                "locked 0 0\nfound 0 20 0 x78\n",
+                "locked 0 0\nfound 0 20 1 x78\n",
+                "locked 1 1\nlocked 1 2\n",
+            ],
+        ),
+        (
+            b"HEAD /a HTTP/1.1\r\n\r\n".as_slice(),
+            [
+                "missing\nmissing\n",
+                "missing\nmissing\n",
+                "done\nfound 0 20 0 x78\n",
+                "done\nfound 0 20 1 x78\n",
+                "done\nlocked 1 2\n",
+            ],
+        ),
+    ] {
+        for ((step, before, answered), reply) in items.iter().zip(replies.iter()) {
+            let mut text = Vec::from_slice(alloc, before)?;
+            text.extend_from_slice(ask)?;
+            text.extend_from_slice(b"GET /a HTTP/1.1\r\n\r\n")?;
+            let pipe = Pipe {
+                step: *step,
+                ..PIPE
+            };
+            let (status, output) = run_text(alloc, pipe, &text, 16_384)?;
+            let lines = spelled(alloc, output.taken())?;
+            let mut wanted = Vec::from_slice(alloc, answered.as_bytes())?;
+            wanted.extend_from_slice(reply.as_bytes())?;
+            assert_eq!(rt; status, 0);
+            assert_eq!(rt;
+                lines.as_slice(),
+                wanted.as_slice(),
+                "wanted {answered}{reply}"
+            );
+        }
+    }
+    Ok(())
+}
