@@ -1,3 +1,11 @@
+pub mod AppendLemmas
+pub mod DecimalLemmas
 pub mod FramingLemmas
+pub mod ReplyLemmas
 pub mod RequestLemmas
+pub mod SentFieldLemmas
+pub mod SentLemmas
+pub mod SentReplyLemmas
+pub mod SentRequestLemmas
 pub mod StreamLemmas
+pub mod TargetLemmas

@@ -67,7 +67,7 @@ no_ask ask e = cc
 one_ask : (a ask : Ask) → AskFits a → Some a ≡ Some ask → AskFits ask
 one_ask a ask fits e = let same : a ≡ ask = cc in subst AskFits same fits
 
-named-fits : (cookie : ℕ) → cookie ≤ most_cookie → CookieFits (named cookie)
+pub named-fits : (cookie : ℕ) → cookie ≤ most_cookie → CookieFits (named cookie)
 named-fits cookie small = by_test (cookie == 0) refl
   where
     by_test : (b : Bool) → (cookie == 0) ≡ b → CookieFits (cond b None (Some cookie))
@@ -99,7 +99,7 @@ delete_ask-fits : (cookie : Option ℕ) (ask : Ask) → ((c : ℕ) → cookie �
 delete_ask-fits None ask small e = no_ask ask e
 delete_ask-fits (Some c) ask small e = one_ask (Remove (named c)) ask (named-fits c (small c refl)) e
 
-lock_cookie-le : (fields : List Field) (c : ℕ) → lock_cookie_field fields ≡ Some c → c ≤ most_cookie
+pub lock_cookie-le : (fields : List Field) (c : ℕ) → lock_cookie_field fields ≡ Some c → c ≤ most_cookie
 lock_cookie-le fields c e = (number_or-in 0 0 most_cookie (once fields (codes "LockCookie")) c (omega arith) (omega arith) e).1
 
 timeout-in : (fields : List Field) (n : ℕ) → timeout_field fields ≡ Some n → (1 ≤ n) × (n ≤ most_minutes)

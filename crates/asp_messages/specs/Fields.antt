@@ -1,6 +1,6 @@
 -- The fields of a head, as names and values. A value has no space or tab at either end (RFC 7230, section 3.2).
 use Rattle.std.specs.Prelude.{ℕ, ◌-◌, ◌^◌, List, [], ◌∷◌, map, codes, Option, Some, None, nat_le, ◌==◌, if◌then◌else◌}
-use Rattle.httparse.specs.Grammar.{RequestHead}
+use Rattle.httparse.specs.Grammar.{RequestHead, ResponseHead}
 use Rattle.httparse.specs.Spans.{name_and_value}
 use Rattle.asp_base.specs.Text.{is_same_name}
 use Rattle.asp_base.specs.Numbers.{number_of}
@@ -12,6 +12,10 @@ Field = List ℕ × List ℕ
 -- a request head's fields, in order
 abbrev pub request_fields : RequestHead → List Field
 request_fields head = map name_and_value head.fields
+
+-- a response head's fields, in order
+abbrev pub response_fields : ResponseHead → List Field
+response_fields head = map name_and_value head.fields
 
 -- the values of the fields of this name, in order
 abbrev pub values : List Field → List ℕ → List (List ℕ)

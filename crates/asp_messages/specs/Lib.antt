@@ -1,6 +1,10 @@
+pub mod Appending
 pub mod Fields
 pub mod Head
+pub mod PlainSpelling
 pub mod Ranges
+pub mod ReplySpelling
 pub mod ReplyText
 pub mod RequestSpelling
+pub mod RequestText
 pub mod Stream

@@ -2,14 +2,28 @@
 //! stream that a connection's bytes are.
 #![tactic(auto)]
 
+mod append;
 mod laws;
+mod plain;
 mod ranges;
 mod reply;
 mod reply_text;
 mod request;
+mod request_text;
+#[cfg(test)]
+mod tests;
+mod wire;
 
 pub use laws::{one_stream, waiting_is_short};
-pub use ranges::{MOST_BODY, MOST_COOKIE, MOST_KEY, MOST_MINUTES, reply_fits, request_fits};
+pub use plain::{spell_ask, spell_reply};
+pub use ranges::{
+    MOST_AGE, MOST_BODY, MOST_COOKIE, MOST_KEY, MOST_MINUTES, reply_fits, request_fits,
+};
 pub use reply::{Reply, status_of};
 pub use reply_text::{ReplyHead, reply_body, reply_head};
 pub use request::{Ask, Message, Request};
+pub use request_text::write_request;
+pub use wire::{
+    one_reply_stream, reply_round_trip, request_round_trip, spelled_is_in_range,
+    waiting_reply_is_short,
+};

@@ -1,10 +1,10 @@
 -- A history goes on by one entry.
-use Rattle.std.proofs.Common.{◌≡◌, ℕ, ◌≤◌, ◌<◌, max, Bool, true, false, cond, List, [], ◌∷◌, ◌++◌, Option, refl, sym, ap, ◌∙◌, subst, append-nil}
+use Rattle.std.proofs.Common.{zero, suc, inl, inr, arith, ◌≡◌, ℕ, ◌≤◌, ◌<◌, max, Bool, true, false, cond, List, [], ◌∷◌, ◌++◌, Option, refl, sym, ap, ◌∙◌, subst, append-nil}
 use Rattle.std.specs.Prelude.{◌⊎◌}
 use Rattle.std.specs.List.{AllByRecursion}
 use Rattle.session_machine.specs.declared.entry.Entry.{Entry}
 use Rattle.session_machine.specs.declared.item.Item.{Item}
-use Rattle.session_machine.specs.History.{Marked, has_risen, marked, is_deed_of, entries_of, after_entry, after_entries, DeedStands, Lead, CountsRise, DrawsRise, IsHeldBelow, LookStands, IsFormed, IsLegal, item_after, count_after}
+use Rattle.session_machine.specs.History.{Marked, has_risen, marked, is_deed_of, entries_of, after_entry, after_entries, DeedStands, Lead, CountsRise, DrawsRise, IsHeldBelow, LookStands, IsFormed, IsLegal, IsFreshDraw, item_after, count_after}
 
 pub All-push : {X : Type 0} (P : X → Type 0) (xs : List X) (x : X) → AllByRecursion P xs → P x → AllByRecursion P (xs ++ x ∷ [])
 All-push P [] x all p = (p, tt)
@@ -54,6 +54,11 @@ CountsRise-push : (count : ℕ) (es : List Entry) (e : Entry) → CountsRise cou
 CountsRise-push count [] e p le = (le, tt)
 CountsRise-push count (f ∷ fs) e p le = (p.0, CountsRise-push f.faults fs e p.1 le)
 
+-- the count after one entry more is that entry's
+pub count_after-push : (count : ℕ) (es : List Entry) (e : Entry) → count_after count (es ++ e ∷ []) ≡ e.faults
+count_after-push count [] e = refl
+count_after-push count (f ∷ fs) e = count_after-push f.faults fs e
+
 -- the greatest cookie drawn
 abbrev pub greatest_draw : ℕ → List Entry → ℕ
 greatest_draw above [] = above
@@ -62,6 +67,20 @@ greatest_draw above (e ∷ es) = greatest_draw (max above e.drawn) es
 DrawsRise-push : (above : ℕ) (es : List Entry) (e : Entry) → DrawsRise above es → (e.drawn ≡ 0) ⊎ (greatest_draw above es < e.drawn) → DrawsRise above (es ++ e ∷ [])
 DrawsRise-push above [] e p draw = (draw, tt)
 DrawsRise-push above (f ∷ fs) e p draw = (p.0, DrawsRise-push (max above f.drawn) fs e p.1 draw)
+
+-- a fresh draw is greater than each before it
+greatest_draw-lt : (above : ℕ) (es : List Entry) (drawn : ℕ) → above < drawn → AllByRecursion (λ e. e.drawn < drawn) es → greatest_draw above es < drawn
+greatest_draw-lt above [] drawn low all = low
+greatest_draw-lt above (e ∷ es) drawn low all = greatest_draw-lt (max above e.drawn) es drawn (omega (arith, low, all.0)) all.1
+
+pub fresh-draws_rise : (opening : List ℕ → Option Item) (es : List Entry) (drawn : ℕ) → IsFreshDraw opening es drawn → (drawn ≡ 0) ⊎ (greatest_draw 0 es < drawn)
+fresh-draws_rise opening es zero fresh = inl refl
+fresh-draws_rise opening es (suc n) (inl none) = inl none
+fresh-draws_rise opening es (suc n) (inr fresh) = inr (greatest_draw-lt 0 es (suc n) (omega arith) fresh.0)
+
+pub fresh-held_below : (opening : List ℕ → Option Item) (es : List Entry) (drawn : ℕ) → IsFreshDraw opening es drawn → 0 < drawn → (key : List ℕ) → IsHeldBelow drawn (opening key)
+fresh-held_below opening es drawn (inl none) some = absurd (omega (arith, none, some))
+fresh-held_below opening es drawn (inr fresh) some = fresh.1
 
 -- the entry may stand behind the history
 pub record MayFollow (opening : List ℕ → Option Item) (count : ℕ) (list : List Entry) (e : Entry) : Type 0 where

@@ -152,6 +152,11 @@ abbrev pub count_after : ℕ → List Entry → ℕ
 count_after count [] = count
 count_after count (e ∷ es) = count_after e.faults es
 
+-- A cookie that may be drawn behind the history: it is greater than each that was drawn, or is held in the opening map. 0 draws none.
+abbrev pub IsFreshDraw : (List ℕ → Option Item) → List Entry → ℕ → Type 0
+IsFreshDraw opening list drawn =
+    (drawn ≡ 0) ⊎ (AllByRecursion (λ e. e.drawn < drawn) list × ((key : List ℕ) → IsHeldBelow drawn (opening key)))
+
 -- the empty map: no key has an item
 abbrev pub nothing : List ℕ → Option Item
 nothing key = None

@@ -1,0 +1,4 @@
+pub mod CompleteLemmas
+pub mod EndingLemmas
+pub mod PlainRunLemmas
+pub mod ProgressLemmas

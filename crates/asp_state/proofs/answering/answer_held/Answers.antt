@@ -1,0 +1,54 @@
+use Rattle.std.proofs.Common.{subst, length, arith, refl, sym, ap, ◌∙◌, length-append}
+use Rattle.asp_messages.specs.RequestSpelling.{SpellsRequest}
+use Rattle.asp_messages.specs.Stream.{HasNoMessage}
+use Rattle.asp_messages.proofs.RequestLemmas.{spelling_some}
+use Rattle.message_framing.specs.Held.{Held}
+use Rattle.asp_state.proofs.ProgressLemmas.{GoesOn-refl, GoesOn-step, GoesOn-part, fit_of_spelling}
+use Rattle.asp_state.specs.Progress.{state_of}
+use Rattle.asp_state.proofs.answering.answer_held.Goals as goal
+
+pub loop-message-init : goal.loop-message-init
+loop-message-init g c = record {
+  goes = GoesOn-refl _ _ _;
+  whole = c.requires.whole;
+  cookies = c.requires.cookies;
+  faults = omega arith;
+  floor = refl;
+}
+
+pub answer-requires-clause-message : goal.answer-requires-clause-message
+answer-requires-clause-message g c =
+    let took = c.in-Message.ensures.message in
+    fit_of_spelling took.front c.in-Message.message took.spells
+
+pub loop-message-smaller : goal.loop-message-smaller
+loop-message-smaller g c =
+    let took = c.in-Message.ensures.message in
+    let held = ap (λ (r : Held). length r.held) c.answer.ensures.reader in
+    omega (arith, held, spelling_some took.front c.in-Message.message took.spells, ap length took.held, length-append took.front c.next.new.self.reader.held)
+
+pub loop-message-preserved : goal.loop-message-preserved
+loop-message-preserved g c =
+    let took = c.in-Message.ensures.message in
+    record {
+      goes = GoesOn-step g.K.Keeper.can_count (g.T.Sink.taken c.args.sink.now) (g.T.Sink.taken c.loop-message.sink) (g.T.Sink.taken c.answer.new.sink) (state_of c.args.server.now (g.K.Keeper.told c.args.server.now.shard) (g.K.Keeper.count c.args.server.now.shard)) (state_of c.loop-message.server (g.K.Keeper.told c.loop-message.server.shard) (g.K.Keeper.count c.loop-message.server.shard)) (state_of c.answer.new.server (g.K.Keeper.told c.answer.new.server.shard) (g.K.Keeper.count c.answer.new.server.shard)) took.front c.next.new.self.reader.held c.in-Message.message
+          c.loop-message.invariant.goes took.held took.spells c.in-Ok.ensures.answered;
+      whole = ap (λ (r : Held). r.is_broken) c.answer.ensures.reader ∙ took.whole ∙ c.loop-message.invariant.whole;
+      cookies = c.answer.ensures.cookies;
+      faults = omega (arith, c.answer.ensures.cause.later, c.loop-message.invariant.faults);
+      floor = c.answer.ensures.floor ∙ c.loop-message.invariant.floor;
+    }
+
+pub returns-in-Err-clause-in_part : goal.returns-in-Err-clause-in_part
+returns-in-Err-clause-in_part g c = λ _.
+    let took = c.in-Message.ensures.message in
+    GoesOn-part g.K.Keeper.can_count (g.T.Sink.taken c.args.sink.now) (g.T.Sink.taken c.loop-message.sink) (g.T.Sink.taken c.answer.new.sink) (state_of c.args.server.now (g.K.Keeper.told c.args.server.now.shard) (g.K.Keeper.count c.args.server.now.shard)) (state_of c.loop-message.server (g.K.Keeper.told c.loop-message.server.shard) (g.K.Keeper.count c.loop-message.server.shard)) (state_of c.answer.new.server (g.K.Keeper.told c.answer.new.server.shard) (g.K.Keeper.count c.answer.new.server.shard)) took.front c.next.new.self.reader.held c.in-Message.message
+    c.loop-message.invariant.goes took.held took.spells c.in-Err.ensures.in_part
+
+pub returns-in-More-clause-waits : goal.returns-in-More-clause-waits
+returns-in-More-clause-waits g c = λ _.
+    let same = c.in-More.ensures.more refl in (
+      ap (λ (r : Held). r.is_broken) same ∙ c.loop-message.invariant.whole,
+      ap (λ (r : Held). r.may_feed) same,
+      subst (HasNoMessage SpellsRequest) (sym (ap (λ (r : Held). r.held) same)) (c.in-More.ensures.none_whole refl),
+    )

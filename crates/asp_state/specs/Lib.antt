@@ -1,0 +1,7 @@
+pub mod Commands
+pub mod PlainRun
+pub mod Progress
+pub mod Reading
+pub mod Replying
+pub mod Run
+pub mod Words

@@ -1,0 +1,73 @@
+//! The top call of a run.
+ghost use Rattle.std.specs.Prelude.{◌≡◌, ◌⊎◌, ◌≤◌, false};
+ghost use Rattle.asp_base.specs.Causes.{Rose};
+ghost use Rattle.keeper.specs.Items.{IsEmptyTold};
+ghost use Rattle.asp_state.specs.declared.pipe.End.{End};
+ghost use Rattle.asp_state.specs.Run.{PipeFits, IsRun, IsWholeInput, TellsLocks, status_number};
+
+use crate::pipe::{End, Pipe};
+use crate::running::run;
+use crate::server::Server;
+use asp_base::{Sink, Source, StepClock};
+use asp_messages::MOST_COOKIE;
+use cookie_source::PlainCookies;
+use keeper::{Keeper, Ran};
+use shard_core::Shard;
+use std::alloc::Global;
+use stream_core::Stream;
+
+/// The exit status of an ending.
+fn status_number(end: End) -> u8
+    ensures { result ≡ status_number end }
+{
+    match end {
+        End::Whole => 0,
+        End::Broken => 3,
+        End::ReadFault => 4,
+        End::WriteFault => 5,
+        End::NoMemory => 6,
+        End::Long => 7,
+    }
+}
+
+/// Answers the requests on the source, one after the other, and hands the keeper back. It waits for
+/// nobody, and returns.
+///
+/// The status is 0 where the input was whole messages and each was answered; 3 where it was not; 4
+/// and 5 where the source or the sink failed; 6 where memory was wanting; 7 where the most bytes were
+/// taken. The first of these in time decides.
+pub fn run_pipe<S: Source, T: Sink, K: Keeper>(
+    alloc: Global,
+    pipe: Pipe,
+    source: &mut S,
+    sink: &mut T,
+    keeper: K,
+) -> Ran<K>
+    requires pipe { PipeFits pipe }
+    requires journal { pipe.journal ≡ false }
+    requires no_faults { K.count keeper ≡ 0 }
+    requires empty { IsEmptyTold (K.told keeper) }
+
+    // There is one ending, whose number is the status, and one run that ended so.
+    ensures ran { (end : End) × (result.status ≡ status_number end)
+        × IsRun K.can_count pipe (S.told source.old) (S.told source.new) (T.taken sink.old) (T.taken sink.new) (K.told result.keeper) (K.count result.keeper) end }
+    ensures read { result.status ≡ 4 → Rose (S.faults source.old) (S.faults source.new) }
+    ensures write { result.status ≡ 5 → Rose (T.faults sink.old) (T.faults sink.new) }
+
+    // Where the input is whole messages and neither source nor sink fails, all are answered, if memory is there.
+    ensures complete { IsWholeInput (S.told source.old) pipe.most → (Rose (S.faults source.old) (S.faults source.new) → ⊥)
+        → (Rose (T.faults sink.old) (T.faults sink.new) → ⊥) → (result.status ≡ 0) ⊎ (result.status ≡ 6) }
+    ensures floor { K.floor result.keeper ≡ K.floor keeper }
+{
+    let mut server = Server {
+        stream: Stream::new(alloc),
+        shard: Shard::new(alloc, keeper),
+        cookies: PlainCookies::new(pipe.first, MOST_COOKIE),
+        clock: StepClock::new(pipe.start, pipe.step),
+    };
+    let end = run(pipe, &mut server, source, sink);
+    Ran {
+        status: status_number(end),
+        keeper: server.shard.into_keeper(),
+    }
+}

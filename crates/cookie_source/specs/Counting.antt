@@ -1,0 +1,15 @@
+-- Cookies drawn by counting.
+use Rattle.std.specs.Prelude.{ℕ, ◌+◌, min, nat_le, Option, Some, None, if◌then◌else◌}
+
+-- a counter's next cookie, and its last one
+pub record Counter : Type 0 where
+  pub next : ℕ
+  pub last : ℕ
+
+-- what the draw after j draws gives: the first cookie plus j, and nothing past the last
+abbrev pub nth_cookie : ℕ → ℕ → ℕ → Option ℕ
+nth_cookie first last j = if nat_le (first + j) last then Some (first + j) else None
+
+-- the next cookie after j draws
+abbrev pub counter_after : ℕ → ℕ → ℕ → ℕ
+counter_after first last j = min (first + j) (last + 1)

@@ -1,0 +1,5 @@
+pub mod EntryLemmas
+pub mod WordsLemmas
+pub mod LegalLemmas
+pub mod LawLemmas
+pub mod Examples

@@ -1,0 +1,114 @@
+-- What locks give, in every legal history.
+use Rattle.std.specs.Prelude.{◌≡◌, ◌≢◌, ℕ, List, [], ◌∷◌, ◌++◌, Option, Some, None, Bool, true, false, IsTrue, ⊤}
+use Rattle.asp_messages.specs.declared.request.Ask.{Ask}
+use Rattle.asp_messages.specs.declared.request.Ask.TheVariants.{Release, Write, Remove}
+use Rattle.asp_messages.specs.declared.reply.Reply.{Reply}
+use Rattle.asp_messages.specs.declared.reply.Reply.TheVariants.{Done, KeeperFault, NoMemory}
+use Rattle.session_machine.specs.declared.entry.Entry.{Entry}
+use Rattle.session_machine.specs.declared.entry.Deed.{Deed}
+use Rattle.session_machine.specs.declared.entry.Deed.TheVariants.{Asked}
+use Rattle.session_machine.specs.declared.item.Item.{Item}
+use Rattle.session_machine.specs.Liveness.{seen}
+use Rattle.session_machine.specs.History.{is_deed_of, item_after}
+use Rattle.lock_laws.specs.InForce.{Grant, granted, IsGranted, IsInForce}
+
+-- ---- the words of the laws
+
+-- At this place of the list, behind the entries before, stands the entry, and it is on the key.
+pub record StandsAt (list : List Entry) (key : List ℕ) (before : List Entry) (e : Entry) : Type 0 where
+  pub behind : List Entry
+  pub place : list ≡ before ++ e ∷ behind
+  pub on_key : IsTrue (is_deed_of key e.deed)
+
+-- the cookie that a request names
+abbrev pub named_in : Ask → Option ℕ
+named_in (Release cookie) = Some cookie
+named_in (Write body minutes fresh cookie) = cookie
+named_in (Remove cookie) = cookie
+named_in ask = None
+
+-- the cookie that a deed names
+abbrev pub named_by : Deed → Option ℕ
+named_by (Asked request) = named_in request.ask
+named_by deed = None
+
+-- the request is a write
+abbrev pub is_write : Ask → Bool
+is_write (Write body minutes fresh cookie) = true
+is_write ask = false
+
+-- the request is a write or a removal
+abbrev pub is_change : Ask → Bool
+is_change (Remove cookie) = true
+is_change ask = is_write ask
+
+-- the deed is a request of this kind
+abbrev pub is_asked : (Ask → Bool) → Deed → Bool
+is_asked kind (Asked request) = kind request.ask
+is_asked kind deed = false
+
+-- The entry acts: what a request would find at its moment differs after it from what it found. To clear an expired item away is no act.
+abbrev pub Acts : (List ℕ → Option Item) → ℕ → List ℕ → List Entry → Entry → Type 0
+Acts opening count key before e =
+    seen (item_after opening count (before ++ e ∷ []) key) e.moment ≢ seen (item_after opening count before key) e.moment
+
+-- what was asked is done, or nothing was, for want of memory or a fault of the keeper
+abbrev pub IsAnsweredUnderLock : Reply → Type 0
+IsAnsweredUnderLock Done = ⊤
+IsAnsweredUnderLock NoMemory = ⊤
+IsAnsweredUnderLock KeeperFault = ⊤
+IsAnsweredUnderLock reply = ⊥
+
+-- the content and the minutes of an item
+abbrev pub content_of : Option Item → Option (List ℕ × ℕ)
+content_of None = None
+content_of (Some item) = Some (item.body, item.minutes)
+
+-- ---- the laws
+
+-- A request that names a cookie acts only where that lock is in force: a stale cookie changes nothing.
+abbrev pub ActsOnlyInForce : (List ℕ → Option Item) → ℕ → List Entry → Type 0
+ActsOnlyInForce opening count list =
+    (key : List ℕ) (before : List Entry) (e : Entry) (cookie : ℕ) → StandsAt list key before e
+    → named_by e.deed ≡ Some cookie → Acts opening count key before e → IsInForce opening count key cookie before e.moment
+
+-- A request that names a cookie whose lock is in force is done, or answered that nothing was for want of memory or a fault.
+abbrev pub InForceIsDone : (List ℕ → Option Item) → ℕ → List Entry → Type 0
+InForceIsDone opening count list =
+    (key : List ℕ) (before : List Entry) (e : Entry) (cookie : ℕ) → StandsAt list key before e
+    → named_by e.deed ≡ Some cookie → IsInForce opening count key cookie before e.moment → IsAnsweredUnderLock e.reply
+
+-- A write that names a cookie and acts finds the content and the minutes that were granted with it: no update is lost.
+abbrev pub NoUpdateIsLost : (List ℕ → Option Item) → ℕ → List Entry → Type 0
+NoUpdateIsLost opening count list =
+    (key : List ℕ) (before : List Entry) (e : Entry) (grant : Grant) (until since : List Entry) → StandsAt list key before e
+    → IsTrue (is_asked is_write e.deed) → named_by e.deed ≡ Some grant.cookie → Acts opening count key before e
+    → IsGranted opening key grant before until since
+    → content_of (item_after opening count before key) ≡ Some (grant.body, grant.minutes)
+
+-- The entry is a write or a removal, and it acts.
+pub record Changes (opening : List ℕ → Option Item) (count : ℕ) (key : List ℕ) (before : List Entry) (e : Entry) : Type 0 where
+  pub kind : IsTrue (is_asked is_change e.deed)
+  pub acts : Acts opening count key before e
+
+-- Since the grant, which is the last of until, no entry has acquired a lock or changed the item; nor does the entry e that stands
+-- behind, unless it names the cookie of the grant.
+pub record IsAlone (opening : List ℕ → Option Item) (count : ℕ) (key : List ℕ) (grant : Grant) (until since : List Entry) (e : Entry) : Type 0 where
+  pub nobody_acquired : (middle : List Entry) (f : Entry) → StandsAt since key middle f → granted f.reply ≡ None
+  pub nobody_changed : (middle : List Entry) (f : Entry) → StandsAt since key middle f → Changes opening count key (until ++ middle) f → ⊥
+  pub acquires_nothing : granted e.reply ≡ None
+  pub changes_by_cookie : Changes opening count key (until ++ since) e → named_by e.deed ≡ Some grant.cookie
+
+-- Where a lock is in force nobody else has acquired or changed anything since its grant, and nobody does.
+abbrev pub NobodyElse : (List ℕ → Option Item) → ℕ → List Entry → Type 0
+NobodyElse opening count list =
+    (key : List ℕ) (before : List Entry) (e : Entry) (grant : Grant) (until since : List Entry) → StandsAt list key before e
+    → IsInForce opening count key grant.cookie before e.moment → IsGranted opening key grant before until since
+    → IsAlone opening count key grant until since e
+
+-- What locks give: all four laws.
+pub record LocksHold (opening : List ℕ → Option Item) (count : ℕ) (list : List Entry) : Type 0 where
+  pub acts_only_in_force : ActsOnlyInForce opening count list
+  pub in_force_is_done : InForceIsDone opening count list
+  pub no_update_is_lost : NoUpdateIsLost opening count list
+  pub nobody_else : NobodyElse opening count list

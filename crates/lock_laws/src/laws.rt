@@ -1,0 +1,33 @@
+//! The laws. The functions do nothing; what they ensure holds of every legal history from any items.
+ghost use Rattle.std.specs.Prelude.{ℕ, List, Option};
+ghost use Rattle.session_machine.specs.declared.entry.Entry.{Entry};
+ghost use Rattle.session_machine.specs.declared.item.Item.{Item};
+ghost use Rattle.session_machine.specs.History.{IsLegal};
+ghost use Rattle.lock_laws.specs.Laws.{ActsOnlyInForce, InForceIsDone, NoUpdateIsLost, NobodyElse, LocksHold};
+
+/// A request that names a cookie acts only where that lock is in force: a stale cookie changes
+/// nothing.
+pub fn acts_only_in_force()
+    ensures { (opening : List ℕ → Option Item) (count : ℕ) (list : List Entry) → IsLegal opening count list → ActsOnlyInForce opening count list }
+{}
+
+/// A request that names a cookie whose lock is in force is done, or answered that nothing was done,
+/// for want of memory or a fault of the keeper.
+pub fn in_force_is_done()
+    ensures { (opening : List ℕ → Option Item) (count : ℕ) (list : List Entry) → IsLegal opening count list → InForceIsDone opening count list }
+{}
+
+/// A write that names a cookie and acts finds what was granted with the cookie: no update is lost.
+pub fn no_update_is_lost()
+    ensures { (opening : List ℕ → Option Item) (count : ℕ) (list : List Entry) → IsLegal opening count list → NoUpdateIsLost opening count list }
+{}
+
+/// While a lock is in force nobody acquires, and nobody writes or removes without its cookie.
+pub fn nobody_else()
+    ensures { (opening : List ℕ → Option Item) (count : ℕ) (list : List Entry) → IsLegal opening count list → NobodyElse opening count list }
+{}
+
+/// All that locks give.
+pub fn locks_hold()
+    ensures { (opening : List ℕ → Option Item) (count : ℕ) (list : List Entry) → IsLegal opening count list → LocksHold opening count list }
+{}

@@ -1,0 +1,6 @@
+//! What locks give in every legal history.
+#![tactic(auto)]
+
+mod laws;
+
+pub use laws::{acts_only_in_force, in_force_is_done, locks_hold, no_update_is_lost, nobody_else};

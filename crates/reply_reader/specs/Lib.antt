@@ -1,0 +1,2 @@
+pub mod FirstReply
+pub mod ReplyNext

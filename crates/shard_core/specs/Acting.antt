@@ -1,0 +1,33 @@
+-- What one request does to the items that a keeper tells.
+use Rattle.std.specs.Prelude.{◌≡◌, ℕ, List, Option, Some, None, Bool, false, ⊤}
+use Rattle.std.specs.Str.{bytes_eq}
+use Rattle.asp_messages.specs.declared.request.Request.{Request}
+use Rattle.asp_messages.specs.declared.request.Ask.{Ask}
+use Rattle.asp_messages.specs.declared.request.Ask.TheVariants.{Acquire}
+use Rattle.asp_messages.specs.declared.reply.Reply.{Reply}
+use Rattle.asp_messages.specs.declared.reply.Reply.TheVariants as replies
+use Rattle.keeper.specs.declared.errors.KeepError.{KeepError}
+use Rattle.keeper.specs.declared.errors.KeepError.TheVariants as errors
+use Rattle.session_machine.specs.declared.item.Item.{Item}
+use Rattle.session_machine.specs.Machine.{Step}
+
+-- The session machine takes a step on the request's key, and every other key keeps its item.
+pub record Acts (old new : List ℕ → Option Item) (request : Request) (t drawn : ℕ) (rose : Bool) (reply : Reply) : Type 0 where
+  pub step : Step (old request.key) t drawn request.ask rose reply (new request.key)
+  pub others : (other : List ℕ) → bytes_eq other request.key ≡ false → new other ≡ old other
+
+-- where a keeper tells, its items take that step
+abbrev pub TellsActs : Option (List ℕ → Option Item) → Option (List ℕ → Option Item) → Request → ℕ → ℕ → Bool → Reply → Type 0
+TellsActs None None request t drawn rose reply = ⊤
+TellsActs None (Some new) request t drawn rose reply = ⊥
+TellsActs (Some old) None request t drawn rose reply = ⊥
+TellsActs (Some old) (Some new) request t drawn rose reply = Acts old new request t drawn rose reply
+
+-- the request is an acquire for which no cookie was left
+abbrev pub IsOutOfCookies : Ask → ℕ → Type 0
+IsOutOfCookies ask drawn = (ask ≡ Acquire) × (drawn ≡ 0)
+
+-- the reply where a keeper refused a call
+abbrev pub refusal_of : KeepError → Reply
+refusal_of errors.Fault = replies.KeeperFault
+refusal_of errors.NoMemory = replies.NoMemory

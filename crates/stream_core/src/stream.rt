@@ -1,0 +1,109 @@
+//! A stream of requests, each answered before the next is taken.
+ghost use Rattle.std.specs.Prelude.{◌⊎◌, ◌≡◌, ◌≤◌, ◌↔◌, length, IsTrue, IsFalse, IsNone, IfSome, OnOk, OnErr, true, false};
+ghost use Rattle.asp_messages.specs.declared.reply.Reply.TheVariants.{Bad};
+ghost use Rattle.asp_messages.specs.Fields.{request_fields};
+ghost use Rattle.asp_messages.specs.Head.{IsRequestHead};
+ghost use Rattle.asp_messages.specs.Ranges.{ReplyFits};
+ghost use Rattle.asp_messages.specs.ReplyText.{head_text};
+ghost use Rattle.asp_messages.specs.RequestSpelling.{SpellsRequest};
+ghost use Rattle.asp_messages.specs.Stream.{HasNoMessage, IsHopeless, IsWaiting};
+ghost use Rattle.message_framing.specs.Held.{empty_reader, fed, waiting, broken, most_held, most_piece, TakesMessage};
+ghost use Rattle.request_reader.specs.Next.{IfNext};
+ghost use Rattle.stream_core.specs.Connection.{IsFinished, is_message};
+
+use asp_base::NoMemory;
+use asp_messages::{Reply, ReplyHead, reply_head};
+use request_reader::{Next, RequestReader};
+use std::alloc::Global;
+use std::marker::Model;
+
+/// A stream of requests, each answered before the next is taken.
+#[derive(Debug, Drop)]
+pub struct Stream {
+    reader: RequestReader,
+    is_due: bool,
+}
+
+impl Model for Stream {
+    ghost use Rattle.stream_core.specs.Connection.{Connection};
+
+    ghost Value = { Connection };
+
+    ghost view = { λ s. record { reader = s.reader; is_due = s.is_due } };
+}
+
+impl Stream {
+    /// A stream that was fed nothing. It takes no memory.
+    pub fn new(alloc: Global) -> Stream
+        ensures { result ≡ record { reader = empty_reader; is_due = false } }
+    {
+        Stream {
+            reader: RequestReader::new(alloc),
+            is_due: false,
+        }
+    }
+
+    /// Adds a piece of at most 16,384 bytes; a broken stream keeps nothing. After `NoMemory` nothing
+    /// has changed.
+    pub fn take(&mut self, piece: &[u8]) -> Result<(), NoMemory>
+        requires piece { length piece.now ≤ most_piece }
+        requires may_feed { IsTrue self.old.reader.may_feed }
+        ensures ok { OnOk result (self.new ≡ record self.old { reader = fed self.old.reader piece.now }) }
+        ensures err { OnErr result (self.new ≡ self.old) }
+    {
+        self.reader.feed(piece)
+    }
+
+    /// The first message of the bytes held, which is then due an answer.
+    pub fn next(&mut self) -> Next
+        ensures message { IfNext result (TakesMessage SpellsRequest self.old.reader self.new.reader) }
+        ensures is_due { self.new.is_due ≡ is_message result }
+
+        // No message is whole, and there is room for more bytes.
+        ensures more { result ≡ Next.More → self.new.reader ≡ waiting self.old.reader }
+        ensures none_whole { result ≡ Next.More → HasNoMessage SpellsRequest self.old.reader.held }
+        ensures waits { result ≡ Next.More → IsWaiting IsRequestHead request_fields self.old.reader.held }
+
+        // No bytes can follow that make a message, and the stream stays broken.
+        ensures broken { result ≡ Next.Broken → self.new.reader ≡ broken }
+        ensures hopeless { result ≡ Next.Broken → IsTrue self.old.reader.is_broken ⊎ IsHopeless SpellsRequest self.old.reader.held }
+        ensures stays { IsTrue self.old.reader.is_broken → result ≡ Next.Broken }
+
+        ensures no_memory { result ≡ Next.NoMemory → self.new.reader ≡ self.old.reader }
+    {
+        let next = self.reader.next();
+        self.is_due = is_message(&next);
+        next
+    }
+
+    /// The head of the reply to the message that is due an answer. It takes no memory.
+    pub fn answer(&mut self, reply: &Reply) -> ReplyHead
+        requires due { IsTrue self.old.is_due }
+        requires fits { ReplyFits reply.now }
+        ensures head { result ≡ head_text reply.now }
+        ensures answered { self.new ≡ record self.old { is_due = false } }
+    {
+        self.is_due = false;
+        reply_head(reply)
+    }
+
+    /// The head of the last `Bad` reply, where the bytes are no whole messages: the stream is broken, or
+    /// holds a byte. It takes no memory.
+    pub fn finish(&mut self) -> Option<ReplyHead>
+        ensures finished { IsNone result ↔ IsFinished self.old }
+        ensures head { IfSome result (λ head. head ≡ head_text Bad) }
+        ensures same { self.new ≡ self.old }
+    {
+        if self.reader.end() {
+            None
+        } else {
+            Some(reply_head(&Reply::Bad))
+        }
+    }
+}
+
+fn is_message(next: &Next) -> bool
+    ensures { result ≡ is_message next.now }
+{
+    matches!(next, Next::Message(_))
+}

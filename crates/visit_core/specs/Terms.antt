@@ -1,0 +1,32 @@
+-- What a visit is about, and the ranges of its lengths and numbers.
+use Rattle.std.specs.Prelude.{ℕ, ◌≤◌, ◌<◌, List, ⊤}
+use Rattle.asp_messages.specs.Ranges.{BodyFits, MinutesFit, ReplyFits}
+use Rattle.visit_core.specs.declared.terms.Need.{Need}
+use Rattle.visit_core.specs.declared.terms.Limits.{Limits}
+use Rattle.visit_core.specs.declared.act.Ending.{Ending}
+use Rattle.visit_core.specs.declared.act.Ending.TheVariants.{Save, Keep, Abandon}
+use Rattle.visit_core.specs.declared.act.Heard.{Heard}
+use Rattle.visit_core.specs.declared.act.Heard.TheVariants.{Reply, Strange}
+
+-- The terms of a visit: the session's key, what the page needs of the session, and how long it asks.
+pub record Terms : Type 0 where
+  pub key : List ℕ
+  pub need : Need
+  pub limits : Limits
+
+-- an execution timeout of at most a day, a poll at least once a minute, and at most a million polls
+pub record LimitsFit (limits : Limits) : Type 0 where
+  pub execution : (0 < limits.execution_secs) × (limits.execution_secs ≤ 86400)
+  pub poll : (0 < limits.poll_ms) × (limits.poll_ms ≤ 60000)
+  pub polls_fit : (0 < limits.polls) × (limits.polls ≤ 1000000)
+
+-- the content and the minutes that are saved are in their ranges
+abbrev pub EndingFits : Ending → Type 0
+EndingFits (Save body minutes) = BodyFits body × MinutesFit minutes
+EndingFits Keep = ⊤
+EndingFits Abandon = ⊤
+
+-- each length and number of the reply is in its range
+abbrev pub HeardFits : Heard → Type 0
+HeardFits (Reply reply) = ReplyFits reply
+HeardFits (Strange status) = ⊤

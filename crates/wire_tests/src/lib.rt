@@ -1,0 +1,10 @@
+//! Both ends of the wire together: what one writes the other reads, in pieces of any size. The crate
+//! has tests alone.
+#![tactic(auto)]
+
+#[cfg(test)]
+mod replies;
+#[cfg(test)]
+mod requests;
+#[cfg(test)]
+mod tests;
