@@ -8,18 +8,28 @@ use message_framing::MOST_PIECE;
 use request_reader::{Next, RequestReader};
 use std::alloc::Global;
 
+/// Adds what is told of a message.
+fn tell_message(told: &mut Vec<u8>, message: &Message) -> Result<(), NoMemory> {
+    match message {
+        Message::Fit(request) => {
+            told.extend_from_slice(request.key.as_slice())?;
+            told.push(b' ')?;
+            spell_ask(told, &request.ask)
+        }
+        Message::Unfit => {
+            told.extend_from_slice(b"unfit")?;
+            Ok(())
+        }
+    }
+}
+
 /// Adds a line for each request that the reader has, and answers whether it may be fed.
 fn tell(reader: &mut RequestReader, told: &mut Vec<u8>, most: usize) -> Result<bool, NoMemory>
     ensures { IfOk result (λ b. IsTrue b → IsTrue reader.new.may_feed) }
 {
     for _ in 0..most {
         match reader.next() {
-            Next::Message(Message::Fit(request)) => {
-                told.extend_from_slice(request.key.as_slice())?;
-                told.push(b' ')?;
-                spell_ask(told, &request.ask)?;
-            }
-            Next::Message(Message::Unfit) => told.extend_from_slice(b"unfit")?,
+            Next::Message(message) => tell_message(told, &message)?,
             Next::More => return Ok(true),
             Next::Broken => {
                 if !told.as_slice().ends_with(b"broken\n") {
