@@ -7,6 +7,7 @@ PROGRAM reads requests on standard input and writes replies on standard output u
 the same run as ./asp_state, by turns, and must write the same bytes. Each case is run five times; the median is printed.
 Outside the gate; nothing of it is promised.
 """
+import hashlib
 import os
 import subprocess
 import sys
@@ -45,7 +46,7 @@ CASES = [
 
 
 def run(command, path):
-    """Seconds, the greatest resident memory in MiB, and the bytes written, of one run."""
+    """Seconds, the greatest resident memory in MiB (not less than this script's own), and a digest of the bytes written."""
     with open(path, "rb") as source, tempfile.TemporaryFile() as sink:
         start = time.perf_counter()
         child = subprocess.Popen(command, stdin=source, stdout=sink)
@@ -55,7 +56,10 @@ def run(command, path):
         if child.returncode != 0:
             sys.exit("%s ended with status %d" % (command[0], child.returncode))
         sink.seek(0)
-        return took, usage.ru_maxrss / 1024, sink.read()
+        digest = hashlib.sha256()
+        while piece := sink.read(1 << 16):
+            digest.update(piece)
+        return took, usage.ru_maxrss / 1024, digest.digest()
 
 
 def main():
