@@ -18,18 +18,35 @@ use keeper::ListKeeper;
 use std::process::ExitCode;
 use std::{env, io};
 
-fn main(rt: HostRuntime) -> io::Result<ExitCode> {
-    let alloc = rt.alloc();
-    let mut words = Vec::new(alloc);
-    let given = match env::args(&rt) {
+/// The status where the words are none of the table of commands.
+const NO_COMMAND: u8 = 2;
+
+/// The status where memory is wanting.
+const NO_MEMORY: u8 = 6;
+
+/// The words of the command line behind the program's name, or a status: a word that is no UTF-8 is
+/// none of the table of commands.
+fn words_given(rt: &HostRuntime) -> Result<Vec<String>, u8> {
+    let given = match env::args(rt) {
         Ok(given) => given,
-        // A word that is no UTF-8 is no row of the table of commands.
-        Err(error) if error.kind() == io::ErrorKind::InvalidData => return Ok(ExitCode::from(2)),
-        Err(error) => return Err(error),
+        Err(error) if error.kind() == io::ErrorKind::OutOfMemory => return Err(NO_MEMORY),
+        Err(_) => return Err(NO_COMMAND),
     };
+    let mut words = Vec::new(rt.alloc());
     for word in given.skip(1) {
-        words.push(word)?;
+        if words.push(word).is_err() {
+            return Err(NO_MEMORY);
+        }
     }
+    Ok(words)
+}
+
+fn main(rt: HostRuntime) -> ExitCode {
+    let alloc = rt.alloc();
+    let words = match words_given(&rt) {
+        Ok(words) => words,
+        Err(status) => return ExitCode::from(status),
+    };
     let mut source = HostSource::new(rt.stdin());
     let mut sink = HostSink::new(rt.stdout());
     let ran = command(
@@ -39,7 +56,7 @@ fn main(rt: HostRuntime) -> io::Result<ExitCode> {
         &mut sink,
         ListKeeper::new(alloc),
     );
-    Ok(ExitCode::from(ran.status))
+    ExitCode::from(ran.status)
 }
 
 #[cfg(test)]
