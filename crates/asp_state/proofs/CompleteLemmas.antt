@@ -1,10 +1,9 @@
 -- A run of whole messages, where nothing fails, answers them all.
-use Rattle.std.proofs.Common.{◌≡◌, ℕ, ◌+◌, ◌<◌, List, [], ◌∷◌, ◌++◌, length, Option, Some, None, refl, sym, ap, ◌∙◌, arith, subst, inl, inr, append_assoc, append-nil, length-append}
-use Rattle.std.specs.Prelude.{◌⊎◌, ◌≢◌}
-use Rattle.asp_base.specs.Outside.{Gives, IsAtEnd}
+use Rattle.std.proofs.Common.{◌≡◌, ℕ, List, [], ◌∷◌, ◌++◌, length, Option, Some, None, refl, sym, ap, ◌∙◌, arith, subst, inl, inr, append_assoc, append-nil, length-append}
+use Rattle.std.specs.Prelude.{◌⊎◌}
 use Rattle.asp_messages.specs.declared.request.Message.{Message}
 use Rattle.asp_messages.specs.RequestSpelling.{SpellsRequest}
-use Rattle.asp_messages.specs.Stream.{Spelled, HasNoMessage, IsHopeless}
+use Rattle.asp_messages.specs.Stream.{Spelled, HasNoMessage}
 use Rattle.asp_messages.proofs.RequestLemmas.{spelling_some, SpellsRequest-unique}
 use Rattle.session_machine.specs.declared.item.Item.{Item}
 use Rattle.asp_state.specs.declared.pipe.Pipe.{Pipe}

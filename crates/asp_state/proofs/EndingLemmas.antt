@@ -1,5 +1,5 @@
 -- A run from its beginning to its end.
-use Rattle.std.proofs.Common.{◌≡◌, ℕ, ◌+◌, ◌-◌, ◌<◌, ◌≤◌, ◌^◌, List, [], ◌∷◌, ◌++◌, length, Option, Some, None, refl, sym, ap, ◌∙◌, arith, subst, cond, inl, inr, append-nil, length-append}
+use Rattle.std.proofs.Common.{◌≡◌, ℕ, ◌+◌, ◌<◌, List, [], ◌∷◌, ◌++◌, length, Option, Some, None, refl, sym, ap, ◌∙◌, arith, subst, cond, inl, inr, append-nil, length-append}
 use Rattle.std.specs.Prelude.{◌≢◌}
 use Rattle.asp_base.specs.Moments.{step_moment}
 use Rattle.asp_base.specs.Outside.{Takes, TakesFront, Gives, IsAtEnd}
@@ -29,7 +29,6 @@ use Rattle.stream_core.specs.Connection.{Connection}
 use Rattle.asp_state.specs.declared.pipe.Pipe.{Pipe}
 use Rattle.asp_state.specs.declared.pipe.End.{End}
 use Rattle.asp_state.specs.declared.pipe.End.TheVariants as ends
-use Rattle.asp_state.specs.PlainRun.{written}
 use Rattle.asp_state.specs.Progress.{ServerState, Progress, GoesOn, GoesInPart, Running, EndsBadly}
 use Rattle.asp_state.specs.Run.{PipeFits, IsRun, EndsAs, IsBroken, TellsLocks}
 

@@ -1,9 +1,8 @@
 -- Inside a run: where it stands between two messages.
 use Rattle.std.specs.Prelude.{◌≡◌, ℕ, ◌+◌, ◌<◌, ◌≤◌, ◌^◌, List, [], ◌∷◌, ◌++◌, length, Option}
 use Rattle.std.specs.List.{AllByRecursion}
-use Rattle.asp_base.specs.Moments.{Ticking, step_moment, ticked}
+use Rattle.asp_base.specs.Moments.{Ticking, step_moment}
 use Rattle.asp_base.specs.Outside.{Gives, Takes, TakesFront}
-use Rattle.asp_messages.specs.declared.request.Ask.{Ask}
 use Rattle.asp_messages.specs.declared.request.Message.{Message}
 use Rattle.asp_messages.specs.declared.request.Message.TheVariants.{Fit, Unfit}
 use Rattle.asp_messages.specs.declared.reply.Reply.{Reply}

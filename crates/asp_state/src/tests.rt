@@ -88,3 +88,10 @@ fn spelled(alloc: Global, output: &[u8]) -> Result<Vec<u8>, Fail> {
     }
     Ok(lines)
 }
+
+/// These texts in one.
+fn joined(alloc: Global, first: &[u8], second: &[u8]) -> Result<Vec<u8>, Fail> {
+    let mut text = Vec::from_slice(alloc, first)?;
+    text.extend_from_slice(second)?;
+    Ok(text)
+}

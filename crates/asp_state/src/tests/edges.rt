@@ -1,5 +1,5 @@
 //! The words of the command line, and the host's source and sink.
-use super::{DONE, FOUND, WRITE_AND_READ, sink, source};
+use super::{DONE, FOUND, WRITE_AND_READ, joined, sink, source};
 use crate::commands::command;
 use asp_base::{Failed, HostSink, HostSource, Sink, Source};
 use keeper::ListKeeper;
@@ -66,8 +66,7 @@ fn pipe_and_id_write_what_they_say(rt: HostRuntime) -> Result<(), Fail> {
         ListKeeper::new(alloc),
     );
     assert_eq!(rt; ran.status, 0);
-    assert_eq!(rt; &output.taken()[..38], DONE);
-    assert_eq!(rt; &output.taken()[38..], FOUND);
+    assert_eq!(rt; output.taken(), joined(alloc, DONE, FOUND)?.as_slice());
     for (digits, text) in [
         (
             "010000000000000000000000000000",

@@ -1,17 +1,9 @@
 //! How a run ends, and what it has written by then.
-use super::{BAD, DONE, FOUND, PIPE, WRITE_AND_READ, run_text, sink, source};
+use super::{BAD, DONE, FOUND, PIPE, WRITE_AND_READ, joined, run_text, sink, source};
 use crate::pipe::Pipe;
 use crate::runs::run_pipe;
 use keeper::{FaultyKeeper, ListKeeper};
-use std::alloc::Global;
 use std::test::Fail;
-
-/// These texts in one.
-fn joined(alloc: Global, first: &[u8], second: &[u8]) -> Result<Vec<u8>, Fail> {
-    let mut text = Vec::from_slice(alloc, first)?;
-    text.extend_from_slice(second)?;
-    Ok(text)
-}
 
 #[test]
 fn an_input_that_is_cut_after_each_of_its_bytes(rt: HostRuntime) -> Result<(), Fail> {

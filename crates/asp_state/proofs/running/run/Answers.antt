@@ -1,11 +1,11 @@
-use Rattle.std.proofs.Common.{◌≡◌, ◌++◌, ◌+◌, ◌-◌, [], cond, length, arith, refl, sym, ap, ◌∙◌, subst, inl, inr, ◌<◌, List, ℕ}
+use Rattle.std.proofs.Common.{◌-◌, [], arith, refl, sym, ap, ◌∙◌, subst, List, ℕ}
 use Rattle.std.specs.Prelude.{◌≢◌}
 use Rattle.asp_messages.specs.RequestSpelling.{SpellsRequest}
 use Rattle.asp_messages.specs.Stream.{HasNoMessage}
 use Rattle.asp_messages.proofs.RequestLemmas.{none_in_nothing}
 use Rattle.message_framing.specs.Held.{Held}
 use Rattle.stream_core.specs.Connection.{Connection}
-use Rattle.asp_state.specs.Progress.{state_of, ServerState}
+use Rattle.asp_state.specs.Progress.{state_of}
 use Rattle.asp_state.proofs.EndingLemmas.{Running-start, ended-unfed, fed_is, turn-on, turn-no_memory, turn-write, turn-long, turn-badly, stop-badly, stop-whole, stop-read, ended-long}
 use Rattle.asp_state.proofs.running.run.Goals as goal
 
