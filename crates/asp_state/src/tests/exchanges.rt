@@ -3,6 +3,16 @@ use super::{PIPE, run_text, spelled};
 use crate::pipe::Pipe;
 use std::test::Fail;
 
+/// Requests that make the item which the next request finds.
+const EXPIRING: &[u8] = b"PUT /a HTTP/1.1\r\nTimeout: 1\r\nContent-Length: 1\r\n\r\nx";
+
+const FREE: &[u8] = b"PUT /a HTTP/1.1\r\nContent-Length: 1\r\n\r\nx";
+
+const FRESH: &[u8] = b"PUT /a HTTP/1.1\r\nExtraFlags: 1\r\nContent-Length: 1\r\n\r\nx";
+
+const HELD: &[u8] =
+    b"PUT /a HTTP/1.1\r\nContent-Length: 1\r\n\r\nxGET /a HTTP/1.1\r\nExclusive: acquire\r\n\r\n";
+
 /// Requests, one after the other, and their replies.
 #[test]
 fn requests_are_answered_in_order(rt: HostRuntime) -> Result<(), Fail> {
@@ -132,29 +142,6 @@ fn requests_are_answered_in_order(rt: HostRuntime) -> Result<(), Fail> {
 #[test]
 fn each_ask_finds_each_item_by_the_table(rt: HostRuntime) -> Result<(), Fail> {
     let alloc = rt.alloc();
-    let items = [
-        (1000, b"".as_slice(), ""),
-        (
-            60_000,
-            b"PUT /a HTTP/1.1\r\nTimeout: 1\r\nContent-Length: 1\r\n\r\nx".as_slice(),
-            "done\n",
-        ),
-        (
-            1000,
-            b"PUT /a HTTP/1.1\r\nContent-Length: 1\r\n\r\nx".as_slice(),
-            "done\n",
-        ),
-        (
-            1000,
-            b"PUT /a HTTP/1.1\r\nExtraFlags: 1\r\nContent-Length: 1\r\n\r\nx".as_slice(),
-            "done\n",
-        ),
-        (
-            1000,
-            b"PUT /a HTTP/1.1\r\nContent-Length: 1\r\n\r\nxGET /a HTTP/1.1\r\nExclusive: acquire\r\n\r\n".as_slice(),
-            "done\nfound 1 20 0 x78\n",
-        ),
-    ];
     for (ask, replies) in [
         (
             b"GET /a HTTP/1.1\r\n\r\n".as_slice(),
@@ -287,12 +274,19 @@ fn each_ask_finds_each_item_by_the_table(rt: HostRuntime) -> Result<(), Fail> {
             ],
         ),
     ] {
-        for ((step, before, answered), reply) in items.iter().zip(replies.iter()) {
+        let [absent, expired, free, fresh, held] = replies;
+        for (expires, before, answered, reply) in [
+            (false, b"".as_slice(), "", absent),
+            (true, EXPIRING, "done\n", expired),
+            (false, FREE, "done\n", free),
+            (false, FRESH, "done\n", fresh),
+            (false, HELD, "done\nfound 1 20 0 x78\n", held),
+        ] {
             let mut text = Vec::from_slice(alloc, before)?;
             text.extend_from_slice(ask)?;
             text.extend_from_slice(b"GET /a HTTP/1.1\r\n\r\n")?;
             let pipe = Pipe {
-                step: *step,
+                step: if expires { 60_000 } else { 1000 },
                 ..PIPE
             };
             let (status, output) = run_text(alloc, pipe, &text, 16_384)?;
