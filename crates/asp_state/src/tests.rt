@@ -1,5 +1,5 @@
 //! Whole runs, from bytes to bytes. Expected replies are in the plain spelling, one a line.
-ghost use Rattle.std.specs.Prelude.{◌≡◌, ◌<◌, false};
+ghost use Rattle.std.specs.Prelude.{◌≡◌, false};
 ghost use Rattle.asp_state.specs.Run.{PipeFits};
 
 mod edges;
@@ -36,11 +36,10 @@ const PIPE: Pipe = Pipe {
     most: 1 << 40,
 };
 
-fn source(alloc: Global, text: &[u8], piece: u64, fails: &[u64]) -> Result<MemorySource, Fail>
-    requires { 0 < piece }
-{
+/// A source of the text, in pieces of at least one byte.
+fn source(alloc: Global, text: &[u8], piece: u64, fails: &[u64]) -> Result<MemorySource, Fail> {
     let text = Bytes::adopt(Vec::from_slice(alloc, text)?);
-    Ok(MemorySource::new(text, piece, Vec::from_slice(alloc, fails)?))
+    Ok(MemorySource::new(text, piece.max(1), Vec::from_slice(alloc, fails)?))
 }
 
 fn sink(alloc: Global, fails: &[u64]) -> Result<MemorySink, Fail> {
@@ -52,7 +51,6 @@ fn sink(alloc: Global, fails: &[u64]) -> Result<MemorySink, Fail> {
 
 /// The status of a run over the text in pieces, and the bytes that it wrote.
 fn run_text(alloc: Global, pipe: Pipe, text: &[u8], piece: u64) -> Result<(u8, MemorySink), Fail>
-    requires piece { 0 < piece }
     requires fits { PipeFits pipe }
     requires journal { pipe.journal ≡ false }
 {
