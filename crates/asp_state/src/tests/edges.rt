@@ -17,42 +17,6 @@ fn words_of(alloc: Global, words: &[&str]) -> Result<Vec<String>, Fail> {
 }
 
 #[test]
-fn words_that_are_no_command_are_refused_before_anything_is_read(
-    rt: HostRuntime,
-) -> Result<(), Fail> {
-    let alloc = rt.alloc();
-    for words in [
-        [].as_slice(),
-        ["pipe"].as_slice(),
-        ["pipe", "0", "1000", "0"].as_slice(),
-        ["pipe", "0", "1000"].as_slice(),
-        ["pipe", "0", "1000", "1", "1"].as_slice(),
-        ["pipe", "0", "1000", "9223372036854775808"].as_slice(),
-        ["pipe", "4611686018427387905", "0", "1"].as_slice(),
-        ["Pipe", "0", "1000", "1"].as_slice(),
-        ["id", "00"].as_slice(),
-        ["id"].as_slice(),
-        ["--help"].as_slice(),
-    ] {
-        let given = words_of(alloc, words)?;
-        let mut input = source(alloc, WRITE_AND_READ, 16_384, &[])?;
-        let mut output = sink(alloc, &[])?;
-        let ran = command(
-            alloc,
-            &given,
-            &mut input,
-            &mut output,
-            ListKeeper::new(alloc),
-        );
-        assert_eq!(rt; ran.status, 2);
-        assert_eq!(rt; output.taken(), b"".as_slice());
-        let mut buf = [0; 64];
-        assert_eq!(rt; input.read(&mut buf), Ok(58));
-    }
-    Ok(())
-}
-
-#[test]
 fn pipe_and_id_write_what_they_say(rt: HostRuntime) -> Result<(), Fail> {
     let alloc = rt.alloc();
     let given = words_of(alloc, &["pipe", "0", "001000", "1"])?;
