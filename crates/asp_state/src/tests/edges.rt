@@ -17,6 +17,31 @@ fn words_of(alloc: Global, words: &[&str]) -> Result<Vec<String>, Fail> {
 }
 
 #[test]
+fn numbers_out_of_range_are_no_command(rt: HostRuntime) -> Result<(), Fail> {
+    let alloc = rt.alloc();
+    for (start, first) in [
+        ("0", "0"),
+        ("0", "9223372036854775808"),
+        ("4611686018427387905", "1"),
+        ("x", "1"),
+    ] {
+        let given = words_of(alloc, &["pipe", start, "1000", first])?;
+        let mut input = source(alloc, WRITE_AND_READ, 16_384, &[])?;
+        let mut output = sink(alloc, &[])?;
+        let ran = command(
+            alloc,
+            &given,
+            &mut input,
+            &mut output,
+            ListKeeper::new(alloc),
+        );
+        assert_eq!(rt; ran.status, 2);
+        assert_eq!(rt; output.taken(), b"".as_slice());
+    }
+    Ok(())
+}
+
+#[test]
 fn pipe_and_id_write_what_they_say(rt: HostRuntime) -> Result<(), Fail> {
     let alloc = rt.alloc();
     let given = words_of(alloc, &["pipe", "0", "001000", "1"])?;
