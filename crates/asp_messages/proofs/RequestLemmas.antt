@@ -1,9 +1,9 @@
 -- Spellings of requests.
-use Rattle.std.proofs.Common.{◌≡◌, ℕ, ◌+◌, ◌-◌, ◌<◌, ◌≤◌, ◌^◌, Bool, true, false, cond, List, [], ◌∷◌, ◌++◌, length, Option, Some, None, refl, sym, ap, ◌∙◌, arith, subst, append_assoc, length-append}
+use Rattle.std.proofs.Common.{◌≡◌, ℕ, ◌<◌, ◌≤◌, Bool, true, false, cond, List, [], ◌++◌, length, Option, Some, None, refl, sym, ap, ◌∙◌, arith, subst, append_assoc, length-append}
 use Rattle.std.specs.Prelude.{codes, ◌==◌}
 use Rattle.std.specs.Str.{bytes_eq}
 use Rattle.std.proofs.lemmas.Bool.Decides.{nat_tests}
-use Rattle.httparse.specs.Grammar.{ReadsRequest, RequestHead}
+use Rattle.httparse.specs.Grammar.{ReadsRequest}
 use Rattle.httparse.proofs.GrammarLemmas.{request_unique, ReadsRequest-append, print_request-append}
 use Rattle.percent_encoding.specs.Percent.{percent_decode}
 use Rattle.asp_base.specs.Text.{is_same_name}
@@ -13,10 +13,9 @@ use Rattle.asp_messages.specs.declared.request.Request.{Request}
 use Rattle.asp_messages.specs.declared.request.Ask.{Ask}
 use Rattle.asp_messages.specs.declared.request.Ask.TheVariants.{Read, Acquire, Release, Write, Remove, Reset}
 use Rattle.asp_messages.specs.Fields.{Field, Standing, absent, one, twice, once, body_length, most_body, most_minutes, most_cookie, number_needed, timeout_field, extra_flags_field, lock_cookie_field, named, request_fields}
-use Rattle.asp_messages.specs.Head.{IsRequestHead}
 use Rattle.asp_messages.specs.Ranges.{RequestFits, AskFits, KeyFits, CookieFits}
-use Rattle.asp_messages.specs.RequestSpelling.{SpellsRequest, message_of, ask_of, get_ask, put_ask, delete_ask, exclusive_ask, release_ask, fit_of, is_key}
-use Rattle.asp_messages.specs.Stream.{IsFramed, HasNoMessage}
+use Rattle.asp_messages.specs.RequestSpelling.{SpellsRequest, message_of, ask_of, get_ask, put_ask, delete_ask, release_ask, fit_of, is_key}
+use Rattle.asp_messages.specs.Stream.{HasNoMessage}
 use Rattle.asp_messages.proofs.FramingLemmas.{body_length-le, number_or-in, number_needed-le, split_alike}
 use Rattle.asp_messages.proofs.StreamLemmas.{IsUnique}
 

@@ -1,5 +1,5 @@
 -- The fields that are written.
-use Rattle.std.proofs.Common.{◌≡◌, ℕ, ◌<◌, ◌≤◌, ◌^◌, List, Some, refl, arith}
+use Rattle.std.proofs.Common.{◌≡◌, ℕ, ◌<◌, ◌≤◌, ◌^◌, Some, refl, arith}
 use Rattle.std.specs.Prelude.{codes, decimal}
 use Rattle.httparse.specs.Grammar.{is_token_byte, trim_ows}
 use Rattle.asp_messages.specs.Fields.{Field, one, number_or, most_body}

@@ -1,5 +1,5 @@
 -- Heads that are written are heads of the grammar.
-use Rattle.std.proofs.Common.{◌≡◌, ℕ, ◌+◌, ◌*◌, ◌<◌, ◌≤◌, ◌^◌, Bool, true, IsTrue, List, [], ◌∷◌, ◌++◌, map, length, Option, Some, None, All, IsUtf8, refl, sym, ap, ◌∙◌, subst, arith, append_assoc, append-nil, length-append}
+use Rattle.std.proofs.Common.{◌≡◌, ℕ, ◌+◌, ◌*◌, ◌<◌, ◌≤◌, ◌^◌, true, IsTrue, List, [], ◌∷◌, ◌++◌, map, length, Some, All, IsUtf8, refl, sym, ap, ◌∙◌, arith, append_assoc, append-nil, length-append}
 use Rattle.std.specs.Prelude.{codes, decimal, ⊤}
 use Rattle.std.specs.List.{flat_map, list_all}
 use Rattle.std.specs.Char.{is_ascii_digit}
@@ -7,12 +7,11 @@ use Rattle.std.specs.Str.Parse.{digits_value}
 use Rattle.std.proofs.lemmas.List.Elements.{All-nil, All-cons}
 use Rattle.std.proofs.lemmas.List.{length-map}
 use Rattle.std.proofs.lemmas.List.Sums.{AllPass-from_list_all}
-use Rattle.httparse.specs.Grammar.{AllPass, IsToken, IsField, LineEnd, crlf, RequestHead, IsRequestHead, print_request, ResponseHead, IsResponseHead, print_response, is_token_byte, is_uri_byte, is_value_byte, field_value, trim_ows, print_field, print_section, Field as Line, status_code}
+use Rattle.httparse.specs.Grammar.{AllPass, IsToken, IsField, crlf, RequestHead, print_request, ResponseHead, print_response, is_token_byte, is_uri_byte, is_value_byte, trim_ows, print_field, Field as Line}
 use Rattle.httparse.specs.Spans.{name_and_value}
 use Rattle.httparse.proofs.GrammarLemmas.{cons-append}
-use Rattle.httparse.proofs.OnLiterals.{httparse_on_literals}
 use Rattle.asp_messages.specs.declared.request.Message.{Message}
-use Rattle.asp_messages.specs.Fields.{Field, body_length, request_fields, response_fields}
+use Rattle.asp_messages.specs.Fields.{Field, body_length}
 use Rattle.asp_messages.specs.Head as heads
 use Rattle.asp_messages.specs.ReplySpelling.{Answer, SpellsReply, answer_of}
 use Rattle.asp_messages.specs.ReplyText.{line}

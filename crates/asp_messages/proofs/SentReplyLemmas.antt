@@ -1,17 +1,17 @@
 -- The canonical text of a reply spells it.
-use Rattle.std.proofs.Common.{◌≡◌, ℕ, ◌+◌, ◌<◌, ◌≤◌, ◌^◌, Bool, true, false, cond, List, [], ◌∷◌, ◌++◌, length, Option, Some, None, refl, sym, ap, ◌∙◌, subst, arith, append_assoc, append-nil}
+use Rattle.std.proofs.Common.{◌≡◌, ℕ, ◌<◌, ◌≤◌, ◌^◌, Bool, true, false, List, [], ◌∷◌, ◌++◌, length, Option, Some, None, refl, sym, ap, ◌∙◌, subst, arith, append_assoc, append-nil}
 use Rattle.std.specs.Prelude.{codes, decimal, ◌==◌}
 use Rattle.std.specs.List.{list_all}
 use Rattle.std.specs.Char.{is_ascii_digit}
 use Rattle.std.specs.Str.Parse.{digits_value}
-use Rattle.httparse.specs.Grammar.{is_token_byte, is_value_byte, trim_ows}
+use Rattle.httparse.specs.Grammar.{is_value_byte}
 use Rattle.asp_base.specs.Numbers.{number_of}
 use Rattle.asp_base.specs.Text.{is_same_name}
 use Rattle.asp_messages.specs.declared.reply.Reply.{Reply}
 use Rattle.asp_messages.specs.declared.reply.Reply.TheVariants.{Found, Done, Locked, Missing, Bad, KeeperFault, NoMemory, CookiesOut, PlacesOut}
-use Rattle.asp_messages.specs.Fields.{Field, Standing, one, at_least, number_or, number_needed, named, body_length, most_body, most_minutes, most_cookie, once}
+use Rattle.asp_messages.specs.Fields.{Field, one, at_least, number_or, number_needed, named, body_length, most_body, most_minutes, most_cookie}
 use Rattle.asp_messages.specs.Ranges.{ReplyFits}
-use Rattle.asp_messages.specs.ReplySpelling.{Answer, reply, SpellsReply, answer_of, strange_unless, reply_of, found_reply, locked_reply, most_age}
+use Rattle.asp_messages.specs.ReplySpelling.{reply, SpellsReply, strange_unless, reply_of, found_reply, locked_reply, most_age}
 use Rattle.asp_messages.specs.ReplyText.{line, ending, head_text, body_of, reply_text}
 use Rattle.asp_messages.proofs.DecimalLemmas.{number_or-decimal, number_needed-decimal, minutes-decimal, named-some}
 use Rattle.asp_messages.proofs.SentFieldLemmas.{timeout_pair, timeout_sent, lock_pair, lock_sent, age_pair, age_sent, length_pair, length_sent, first_pair, first_sent, announced}

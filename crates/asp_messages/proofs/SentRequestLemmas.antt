@@ -1,5 +1,5 @@
 -- The canonical text of a request spells it.
-use Rattle.std.proofs.Common.{◌≡◌, ℕ, ◌+◌, ◌*◌, ◌<◌, ◌≤◌, ◌^◌, Bool, true, false, All, List, [], ◌∷◌, ◌++◌, length, Option, Some, None, refl, sym, ap, ◌∙◌, subst, arith, append_assoc, append-nil}
+use Rattle.std.proofs.Common.{◌≡◌, ℕ, ◌<◌, ◌≤◌, ◌^◌, Bool, true, false, All, List, [], ◌∷◌, ◌++◌, length, Option, Some, None, refl, sym, ap, ◌∙◌, subst, arith, append_assoc, append-nil}
 use Rattle.std.specs.Prelude.{codes, decimal, ◌==◌}
 use Rattle.std.specs.List.{list_all}
 use Rattle.std.proofs.lemmas.Bool.Decides.{nat_tests}
@@ -12,10 +12,10 @@ use Rattle.asp_messages.specs.declared.request.Message.TheVariants.{Fit}
 use Rattle.asp_messages.specs.declared.request.Request.{Request}
 use Rattle.asp_messages.specs.declared.request.Ask.{Ask}
 use Rattle.asp_messages.specs.declared.request.Ask.TheVariants.{Read, Acquire, Release, Write, Remove, Reset}
-use Rattle.asp_messages.specs.Fields.{Field, one, number_or, number_needed, named, body_length, most_body, most_minutes, most_cookie}
+use Rattle.asp_messages.specs.Fields.{Field, one, number_or, named, body_length, most_body, most_minutes, most_cookie}
 use Rattle.asp_messages.specs.Ranges.{RequestFits, AskFits, KeyFits}
 use Rattle.asp_messages.specs.ReplyText.{line}
-use Rattle.asp_messages.specs.RequestSpelling.{SpellsRequest, message_of, ask_of, is_key, get_ask, release_ask, put_ask, delete_ask}
+use Rattle.asp_messages.specs.RequestSpelling.{SpellsRequest, message_of, ask_of, is_key, release_ask, put_ask, delete_ask}
 use Rattle.asp_messages.specs.RequestText.{target_text, verb_text, start_lines, ask_fields, content_of, request_text}
 use Rattle.asp_messages.proofs.DecimalLemmas.{number_or-decimal, number_needed-decimal, named-some}
 use Rattle.asp_messages.proofs.SentFieldLemmas.{timeout_pair, timeout_sent, lock_pair, lock_sent, length_pair, length_sent, host_pair, host_sent, acquire_pair, acquire_sent, release_pair, release_sent, fresh_pair, fresh_sent, announced}

@@ -1,6 +1,6 @@
 -- Streams of messages, of any kind.
 use Rattle.std.proofs.Common.{◌≡◌, ℕ, List, [], ◌∷◌, ◌++◌, refl, sym, ap, ◌∙◌, append_assoc, subst}
-use Rattle.asp_messages.specs.Stream.{Spelled, HasNoMessage, IsStream}
+use Rattle.asp_messages.specs.Stream.{Spelled, IsStream}
 
 -- a message that comes behind those read
 pub Spelled-push : {M : Type 0} (Spells : List ℕ → M → Type 0) (bytes : List ℕ) (ms : List M) (front back : List ℕ) (m : M)

@@ -1,10 +1,10 @@
 -- The target that names a key.
-use Rattle.std.proofs.Common.{◌≡◌, ℕ, ◌<◌, ◌≤◌, Bool, true, false, not, ◌||◌, cond, ⊎_elim, ◌+◌, ◌*◌, IsTrue, IsUtf8, All, subst, length, List, [], ◌∷◌, ◌++◌, refl, sym, ap, ◌∙◌, arith, ltb}
+use Rattle.std.proofs.Common.{◌≡◌, ℕ, ◌<◌, ◌≤◌, Bool, true, false, not, ◌||◌, cond, ⊎_elim, ◌*◌, IsTrue, IsUtf8, All, subst, length, List, [], ◌∷◌, ◌++◌, refl, sym, ap, ◌∙◌, arith, ltb}
 use Rattle.std.proofs.lemmas.Bool.{agree_below, agree_below_at, cases_Bool}
 use Rattle.std.proofs.lemmas.Bool.Decides.{nat_tests}
 use Rattle.std.proofs.lemmas.Str.{IsUtf8-from_ascii}
 use Rattle.httparse.specs.Grammar.{AllPass, is_uri_byte}
-use Rattle.percent_encoding.specs.AsciiSet.{contains, should_percent_encode}
+use Rattle.percent_encoding.specs.AsciiSet.{should_percent_encode}
 use Rattle.percent_encoding.specs.Percent.{percent_encode, percent_encode_byte, encode_byte, percent_decode}
 use Rattle.percent_encoding.proofs.AsciiSetLemmas.{ascii_from_kept}
 use Rattle.percent_encoding.proofs.PercentLemmas.{IsByte, IsEscapeByte, All-percent_encode, IsAscii-percent_encode, length-percent_decode, round_trip}

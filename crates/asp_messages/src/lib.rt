@@ -17,7 +17,7 @@ mod wire;
 pub use laws::{one_stream, waiting_is_short};
 pub use plain::{spell_ask, spell_reply};
 pub use ranges::{
-    MOST_AGE, MOST_BODY, MOST_COOKIE, MOST_KEY, MOST_MINUTES, reply_fits, request_fits,
+    MOST_AGE, MOST_BODY, MOST_COOKIE, MOST_KEY, MOST_MINUTES, named, reply_fits, request_fits,
 };
 pub use reply::{Reply, status_of};
 pub use reply_text::{ReplyHead, reply_body, reply_head};

@@ -1,5 +1,6 @@
 //! The ranges of lengths and numbers.
 ghost use Rattle.std.specs.Prelude.{◌≡◌, ◌↔◌, IsTrue};
+ghost use Rattle.asp_messages.specs.Fields.{named};
 ghost use Rattle.asp_messages.specs.Ranges.{BodyFits, CookieFits, MinutesFit, RequestFits, ReplyFits, AskFits};
 
 use crate::{Ask, Reply, Request};
@@ -55,6 +56,13 @@ fn ask_fits(ask: &Ask) -> bool
         } => body_fits(body) && minutes_fit(*minutes) && cookie_fits(*cookie),
         Ask::Remove { cookie } => cookie_fits(*cookie),
     }
+}
+
+/// The cookie that a number names: 0 names none.
+pub fn named(cookie: u64) -> Option<u64>
+    ensures { result ≡ named cookie }
+{
+    if cookie == 0 { None } else { Some(cookie) }
 }
 
 /// Whether each length and number of the request is in its range.

@@ -1,5 +1,5 @@
 -- The bytes that a reader holds, as its callers see it.
-use Rattle.std.specs.Prelude.{◌≡◌, ℕ, ◌+◌, ◌<◌, Bool, true, false, List, [], ◌++◌, length, if◌then◌else◌}
+use Rattle.std.specs.Prelude.{◌≡◌, ℕ, ◌+◌, Bool, true, false, List, [], ◌++◌, if◌then◌else◌}
 use Rattle.asp_messages.specs.Fields.{most_body}
 use Rattle.asp_messages.specs.Head.{most_head}
 

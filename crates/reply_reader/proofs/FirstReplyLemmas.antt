@@ -4,7 +4,7 @@ use Rattle.std.proofs.lemmas.List.{take_at, length-map, take-append-le}
 use Rattle.std.proofs.Math.Seq.{take-add}
 use Rattle.httparse.specs.declared.spans.HeaderSpan.{HeaderSpan}
 use Rattle.httparse.specs.declared.spans.ResponseSpans.{ResponseSpans}
-use Rattle.httparse.specs.Grammar.{ResponseHead, print_response, ReadsResponse, HasNoResponse, status_code}
+use Rattle.httparse.specs.Grammar.{print_response, ReadsResponse, HasNoResponse, status_code}
 use Rattle.httparse.proofs.GrammarLemmas.{response_prefix_free}
 use Rattle.httparse.specs.Spans.{header_bytes, IsResponseWithin, IsResponseOf, ResponseOverflows}
 use Rattle.asp_messages.proofs.ReplyLemmas.{reply_reads_more}

@@ -6,16 +6,10 @@ ghost use Rattle.asp_messages.specs.ReplySpelling as spelling;
 ghost use Rattle.message_framing.specs.Standings.{standing_of};
 
 use asp_base::{Bytes, NoMemory};
-use asp_messages::{MOST_AGE, MOST_COOKIE, MOST_MINUTES, Reply};
+use asp_messages::{MOST_AGE, MOST_COOKIE, MOST_MINUTES, Reply, named};
 use httparse::spans::HeaderSpan;
 use message_framing::{Standing, find_field, lock_cookie, number_needed, number_or};
 use std::alloc::Global;
-
-fn named(cookie: u64) -> Option<u64>
-    ensures { result ≡ fields.named cookie }
-{
-    if cookie == 0 { None } else { Some(cookie) }
-}
 
 fn found_reply(
     alloc: Global,

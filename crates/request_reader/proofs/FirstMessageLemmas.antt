@@ -4,7 +4,7 @@ use Rattle.std.proofs.lemmas.List.{take_at, length-map, take-append-le}
 use Rattle.std.proofs.Math.Seq.{take-add}
 use Rattle.httparse.specs.declared.spans.HeaderSpan.{HeaderSpan}
 use Rattle.httparse.specs.declared.spans.RequestSpans.{RequestSpans}
-use Rattle.httparse.specs.Grammar.{RequestHead, print_request, ReadsRequest, HasNoRequest}
+use Rattle.httparse.specs.Grammar.{print_request, ReadsRequest, HasNoRequest}
 use Rattle.httparse.proofs.GrammarLemmas.{request_prefix_free}
 use Rattle.httparse.specs.Spans.{header_bytes, span_bytes, IsRequestWithin, IsRequestOf, RequestOverflows}
 use Rattle.asp_messages.proofs.RequestLemmas.{reads_more}

@@ -1,12 +1,11 @@
 //! The message that a request's head and body spell.
 ghost use Rattle.std.specs.Prelude.{◌≡◌, length, map, All, IfOk};
 ghost use Rattle.httparse.specs.Spans.{IsHeaderWithin, header_bytes};
-ghost use Rattle.asp_messages.specs.Fields as fields;
 ghost use Rattle.asp_messages.specs.RequestSpelling as spelling;
 ghost use Rattle.message_framing.specs.Standings.{standing_of};
 
 use asp_base::{Bytes, NoMemory, same_name};
-use asp_messages::{Ask, MOST_COOKIE, MOST_KEY, MOST_MINUTES, Message, Request};
+use asp_messages::{Ask, MOST_COOKIE, MOST_KEY, MOST_MINUTES, Message, Request, named};
 use httparse::spans::HeaderSpan;
 use message_framing::{Standing, find_field, lock_cookie, number_needed, number_or};
 use percent_encoding::percent_decode;
@@ -14,12 +13,6 @@ use std::alloc::Global;
 
 /// How long an item lives whose write says no timeout, in minutes.
 const DEFAULT_MINUTES: u64 = 20;
-
-fn named(cookie: u64) -> Option<u64>
-    ensures { result ≡ fields.named cookie }
-{
-    if cookie == 0 { None } else { Some(cookie) }
-}
 
 fn release_ask(cookie: Option<u64>) -> Option<Ask>
     ensures { result ≡ spelling.release_ask cookie }

@@ -1,5 +1,5 @@
 -- A keeper that stands for a history stands for it with one entry more.
-use Rattle.std.proofs.Common.{◌≡◌, ℕ, ◌+◌, ◌-◌, ◌≤◌, ◌<◌, ◌^◌, min, Bool, true, false, List, [], ◌∷◌, ◌++◌, Option, Some, None, refl, sym, ap, ◌∙◌, arith, subst, inl}
+use Rattle.std.proofs.Common.{◌≡◌, ℕ, ◌≤◌, ◌<◌, ◌^◌, Bool, true, false, List, [], ◌∷◌, ◌++◌, Option, Some, None, refl, sym, ap, ◌∙◌, arith, subst, inl}
 use Rattle.std.specs.Prelude.{IfSome, IsTrue}
 use Rattle.std.specs.Str.{bytes_eq}
 use Rattle.std.proofs.lemmas.Bool.Decides.{nat_tests}
@@ -9,23 +9,21 @@ use Rattle.asp_messages.specs.declared.request.Ask.{Ask}
 use Rattle.asp_messages.specs.declared.request.Ask.TheVariants.{Read, Acquire, Release, Write, Remove, Reset}
 use Rattle.asp_messages.specs.declared.request.Request.{Request}
 use Rattle.asp_messages.specs.declared.reply.Reply.{Reply}
-use Rattle.asp_messages.specs.declared.reply.Reply.TheVariants.{Done}
 use Rattle.asp_messages.specs.Ranges.{RequestFits, ReplyFits, KeyFits}
 use Rattle.session_machine.specs.declared.entry.Entry.{Entry}
-use Rattle.session_machine.specs.declared.entry.Deed.TheVariants.{Asked, Expired, Looked}
+use Rattle.session_machine.specs.declared.entry.Deed.TheVariants.{Asked, Expired}
 use Rattle.session_machine.specs.declared.item.Item.{Item}
-use Rattle.session_machine.specs.Liveness.{ItemFits, is_live, expiry}
+use Rattle.session_machine.specs.Liveness.{ItemFits, expiry}
 use Rattle.session_machine.specs.Machine.{Effect, effect, Step}
 use Rattle.session_machine.specs.History.{IsLegal, IsFreshDraw, DrawFits, HasPlace, IsDead, item_after, count_after, has_risen, is_deed_of, after_reply}
-use Rattle.session_machine.proofs.HistoryLemmas.{MayFollow, IsLegal-push, item_after-same, item_after-other, count_after-push, fresh-draws_rise, fresh-held_below}
+use Rattle.session_machine.proofs.HistoryLemmas.{IsLegal-push, item_after-same, item_after-other, count_after-push, fresh-draws_rise, fresh-held_below}
 use Rattle.session_machine.proofs.MachineLemmas.{Step-fixes, EffectFits, effect-fits}
 use Rattle.keeper.specs.Due.{IsFirstDue}
-use Rattle.keeper.specs.Items.{Sets}
 use Rattle.shard_core.specs.declared.shard.Swept.{Swept}
 use Rattle.shard_core.specs.declared.shard.Swept.TheVariants as swept
 use Rattle.shard_core.specs.Acting.{Acts, TellsActs}
 use Rattle.shard_core.specs.Standing.{StandsFor, TellsAfter, asked_entry}
-use Rattle.shard_core.specs.Sweeping.{TellsRemoved, IfRemoved, IsUnmoved, swept_entry, swept_deed, swept_reply}
+use Rattle.shard_core.specs.Sweeping.{TellsRemoved, IfRemoved, IsUnmoved, swept_entry}
 
 bytes_eq-same : (a b : List ℕ) → bytes_eq a b ≡ true → a ≡ b
 bytes_eq-same a b h = (bytes_eq-Decides a b).0 h

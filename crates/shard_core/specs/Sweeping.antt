@@ -1,5 +1,5 @@
 -- What one look for an expired item does.
-use Rattle.std.specs.Prelude.{◌≡◌, ℕ, List, Option, Some, None, ⊤}
+use Rattle.std.specs.Prelude.{ℕ, List, Option, Some, None, ⊤}
 use Rattle.keeper.specs.declared.errors.KeepError.{KeepError}
 use Rattle.keeper.specs.declared.errors.KeepError.TheVariants as errors
 use Rattle.keeper.specs.Due.{IsFirstDue}

@@ -1,7 +1,6 @@
 //! One request on a keeper's items.
 ghost use Rattle.std.specs.Prelude.{◌≡◌, ◌↔◌, ◌≤◌, ◌^◌, if◌then◌else◌, Some, None, IfOk, IfSome, OnOk, OnErr, IsTrue, option_copied};
 ghost use Rattle.asp_base.specs.Causes.{Rose};
-ghost use Rattle.asp_messages.specs.Fields.{named};
 ghost use Rattle.asp_messages.specs.Ranges.{KeyFits, RequestFits, ReplyFits};
 ghost use Rattle.session_machine.specs.History.{DrawFits, HasPlace, has_risen};
 ghost use Rattle.session_machine.specs.Liveness.{ItemFits};
@@ -11,16 +10,10 @@ ghost use Rattle.keeper.specs.Items.{TellsItem, TellsSets};
 ghost use Rattle.shard_core.specs.Acting.{TellsActs, IsOutOfCookies, refusal_of};
 
 use asp_base::{Bytes, NoMemory};
-use asp_messages::{Ask, Reply, Request};
+use asp_messages::{Ask, Reply, Request, named};
 use keeper::{KeepError, Keeper};
 use session_machine::{Change, Item, Kind, decide};
 use std::alloc::Global;
-
-fn named(cookie: u64) -> Option<u64>
-    ensures { result ≡ named cookie }
-{
-    if cookie == 0 { None } else { Some(cookie) }
-}
 
 /// The reply of this kind. The content of `Found` is copied.
 fn reply(alloc: Global, kind: Kind, item: Option<&Item>) -> Result<Reply, NoMemory>

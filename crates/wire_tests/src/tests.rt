@@ -2,7 +2,7 @@ use crate::replies::replies_of;
 use crate::requests::requests_of;
 use asp_base::{Bytes, NoMemory};
 use asp_messages::{
-    Ask, Reply, Request, reply_body, reply_head, spell_ask, spell_reply, write_request,
+    Ask, Reply, Request, named, reply_body, reply_head, spell_ask, spell_reply, write_request,
 };
 use std::alloc::Global;
 use std::test::Fail;
@@ -137,10 +137,6 @@ const CONTENTS: [(&[u8], u64, u64, bool); 4] = [
     (b"\r\n", 525_600, 0, true),
     (&[0; 300], 525_600, LAST_COOKIE, false),
 ];
-
-fn named(cookie: u64) -> Option<u64> {
-    if cookie == 0 { None } else { Some(cookie) }
-}
 
 fn plain_reply(number: u8) -> Reply {
     match number {

@@ -1,4 +1,4 @@
-use Rattle.std.proofs.Common.{◌≡◌, ◌+◌, length, take, drop, arith, ap, length-drop, length-take}
+use Rattle.std.proofs.Common.{◌≡◌, length, take, drop, arith, ap, length-drop, length-take}
 use Rattle.std.proofs.Math.Nat.{add-sub_cancel_left}
 use Rattle.asp_base.proofs.OutsideLemmas.{given_front, given_rest}
 use Rattle.asp_base.proofs.memory_source.give.Goals as goal

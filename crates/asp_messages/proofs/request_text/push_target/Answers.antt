@@ -1,4 +1,3 @@
-use Rattle.std.proofs.Common.{sym}
 use Rattle.asp_messages.proofs.TargetLemmas.{percent_encode_is}
 use Rattle.asp_messages.proofs.request_text.push_target.Goals as goal
 

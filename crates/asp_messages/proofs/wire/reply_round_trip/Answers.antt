@@ -1,4 +1,4 @@
-use Rattle.std.proofs.Common.{◌++◌, refl, sym}
+use Rattle.std.proofs.Common.{◌++◌, refl}
 use Rattle.asp_messages.specs.ReplyText.{reply_text}
 use Rattle.asp_messages.proofs.SentReplyLemmas.{reply_spelled}
 use Rattle.asp_messages.proofs.ReplyLemmas.{SpellsReply-unique}

@@ -1,4 +1,4 @@
-use Rattle.std.proofs.Common.{◌≡◌, ℕ, List, map, Option, Result, IfOk, refl, sym, ap, ◌∙◌, subst}
+use Rattle.std.proofs.Common.{◌≡◌, ℕ, List, map, Option, IfOk, refl, sym, ap, ◌∙◌, subst}
 use Rattle.httparse.specs.Spans.{header_bytes}
 use Rattle.message_framing.specs.Standings.{standing_of}
 use Rattle.message_framing.specs.declared.fields.Standing.{Standing}

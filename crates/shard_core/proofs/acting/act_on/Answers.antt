@@ -1,4 +1,4 @@
-use Rattle.std.proofs.Common.{ap, subst, sym}
+use Rattle.std.proofs.Common.{subst, sym}
 use Rattle.asp_messages.specs.Ranges.{ReplyFits}
 use Rattle.session_machine.specs.Verdicts.{effect_of}
 use Rattle.shard_core.proofs.StandingLemmas.{decided-fits}

@@ -1,4 +1,4 @@
-use Rattle.std.proofs.Common.{◌≡◌, subst, inr, refl, ap, ◌∙◌, sym}
+use Rattle.std.proofs.Common.{subst, inr, refl, ap, ◌∙◌}
 use Rattle.asp_messages.specs.Fields.{response_fields}
 use Rattle.asp_messages.specs.Head.{IsReplyHead}
 use Rattle.asp_messages.specs.ReplySpelling.{SpellsReply}
