@@ -1,0 +1,25 @@
+-- When a desk stands for a history.
+use Rattle.std.specs.Prelude.{◌≡◌, ℕ, ◌<◌, ◌≤◌, List, Option}
+use Rattle.std.specs.List.{AllByRecursion}
+use Rattle.cookie_source.specs.Counting.{Counter, counter_after}
+use Rattle.session_machine.specs.declared.entry.Entry.{Entry}
+use Rattle.session_machine.specs.declared.item.Item.{Item}
+use Rattle.session_machine.specs.History.{IsHeldBelow}
+use Rattle.shard_core.specs.Standing.{StandsFor}
+use Rattle.desk.specs.Draws.{draws_in}
+
+-- a desk: what keeps the items, and the cookies that are left
+pub record DeskOf (K : Type 0) : Type 0 where
+  pub keeper : K
+  pub cookies : Counter
+
+-- What a desk's keeper tells and counts (told, now) are those after the history, each of whose counts of faults is one that a keeper of the
+-- type can have; and the cookies drawn in it are those from the first on, in order. None of the cookies left was drawn, or is held in the opening map.
+pub record DeskStandsFor (CanCount : ℕ → Type 0) (first : ℕ) (opening : List ℕ → Option Item) (count : ℕ) (list : List Entry)
+    (told : Option (List ℕ → Option Item)) (now : ℕ) (cookies : Counter) : Type 0 where
+  pub stands : StandsFor opening count list told now
+  pub counts : AllByRecursion (λ e. CanCount e.faults) list
+  pub next : cookies.next ≡ counter_after first cookies.last (draws_in list)
+  pub some : first ≤ cookies.last
+  pub drawn : AllByRecursion (λ e. e.drawn < cookies.next) list
+  pub held : (key : List ℕ) → IsHeldBelow cookies.next (opening key)
