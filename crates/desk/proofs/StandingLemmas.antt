@@ -1,5 +1,5 @@
 -- A desk's history goes on by one entry.
-use Rattle.std.proofs.Common.{zero, suc, ◌≡◌, ℕ, ◌+◌, ◌<◌, ◌≤◌, List, [], ◌∷◌, ◌++◌, Option, Some, None, refl, sym, ap, ◌∙◌, arith, subst, inl, inr}
+use Rattle.std.proofs.Common.{zero, suc, ◌≡◌, ℕ, ◌+◌, ◌<◌, ◌≤◌, List, [], ◌∷◌, ◌++◌, Option, Some, None, refl, sym, ap, ◌∙◌, arith, inl, inr}
 use Rattle.std.specs.Prelude.{IfSome}
 use Rattle.std.specs.List.{AllByRecursion}
 use Rattle.asp_messages.specs.declared.request.Request.{Request}
@@ -51,14 +51,17 @@ module _ (CanCount : ℕ → Type 0) (first : ℕ) (opening : List ℕ → Optio
         → (IsFreshDraw opening list drawn → StandsFor opening count list told now → StandsFor opening count (list ++ asked_entry caller t r drawn reply now' ∷ []) told' now')
         → (drawn ≡ draw_of first cookies.last (draws_in list) r.ask)
         × DeskStandsFor CanCount first opening count (list ++ asked_entry caller t r drawn reply now' ∷ []) told' now' cookies'
-    goes_on-asked cookies' caller t drawn r reply drew history = (drawn_is, record {
-      stands = history (fresh_draw opening list cookies.next drawn drew.above stand.drawn stand.held) stand.stands;
-      counts = All-push (λ (f : Entry). CanCount f.faults) list entry stand.counts can;
-      next = nth.1 ∙ ap (λ l. counter_after first l (draws_in list + draws r.ask)) (sym drew.last) ∙ ap (counter_after first cookies'.last) (sym (draws_in-push list entry));
-      some = let last = drew.last in let low = stand.some in omega (arith, last, low);
-      drawn = All-push (λ (f : Entry). f.drawn < cookies'.next) list entry (below_more list cookies.next cookies'.next drew.rises stand.drawn) drew.below;
-      held = λ key. held_more (opening key) cookies.next cookies'.next drew.rises (stand.held key);
-    })
+    goes_on-asked cookies' caller t drawn r reply drew history = (
+      drawn_is,
+      record {
+        stands = history (fresh_draw opening list cookies.next drawn drew.above stand.drawn stand.held) stand.stands;
+        counts = All-push (λ (f : Entry). CanCount f.faults) list entry stand.counts can;
+        next = nth.1 ∙ ap (λ l. counter_after first l (draws_in list + draws r.ask)) (sym drew.last) ∙ ap (counter_after first cookies'.last) (sym (draws_in-push list entry));
+        some = let last = drew.last in let low = stand.some in omega (arith, last, low);
+        drawn = All-push (λ (f : Entry). f.drawn < cookies'.next) list entry (below_more list cookies.next cookies'.next drew.rises stand.drawn) drew.below;
+        held = λ key. held_more (opening key) cookies.next cookies'.next drew.rises (stand.held key);
+      },
+    )
       where
         entry : Entry
         entry = asked_entry caller t r drawn reply now'

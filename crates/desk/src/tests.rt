@@ -58,7 +58,10 @@ fn the_last_cookie_is_granted_once(rt: HostRuntime) -> Result<(), Fail> {
     };
     assert_eq!(rt; desk.act(write(alloc, b'a')?, 0), done);
     assert_eq!(rt; desk.act(write(alloc, b'b')?, 1000), done);
-    assert_eq!(rt; desk.act(acquire(alloc, b'a')?, 2000), granted(alloc, LAST_COOKIE)?);
+    assert_eq!(rt;
+        desk.act(acquire(alloc, b'a')?, 2000),
+        granted(alloc, LAST_COOKIE)?
+    );
     let none_left = Acted {
         reply: Reply::CookiesOut,
         drawn: 0,

@@ -1,0 +1,4 @@
+pub mod CoverLemmas
+pub mod EndLemmas
+pub mod LoadLemmas
+pub mod SweepLemmas

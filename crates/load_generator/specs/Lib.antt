@@ -1,0 +1,5 @@
+pub mod Counting
+pub mod Load
+pub mod Run
+pub mod Running
+pub mod Steps

@@ -1,0 +1,76 @@
+-- A load: its requests, the sweep behind them, and what is written of both.
+use Rattle.std.specs.Prelude.{◌≡◌, ◌⊎◌, ℕ, ◌==◌, List, [], ◌∷◌, ◌++◌, length, count_by, codes, decimal, Option, None, ⊤}
+use Rattle.std.specs.List.{AllByRecursion}
+use Rattle.asp_base.specs.Moments.{last_moment}
+use Rattle.asp_base.specs.Outside.{Takes, TakesFront}
+use Rattle.asp_messages.specs.declared.reply.Reply.TheVariants.{Done}
+use Rattle.asp_messages.specs.ReplyText.{status_number}
+use Rattle.keeper.specs.Due.{TellsDue}
+use Rattle.session_machine.specs.declared.entry.Entry.{Entry}
+use Rattle.session_machine.specs.declared.entry.Deed.{Deed}
+use Rattle.session_machine.specs.declared.entry.Deed.TheVariants.{Asked, Expired, Looked}
+use Rattle.session_machine.specs.declared.item.Item.{Item}
+use Rattle.session_machine.specs.History.{nothing}
+use Rattle.shard_core.specs.Standing.{StandsFor}
+use Rattle.load_generator.specs.Load.{seeded, AreMade}
+
+-- ---- the sweep
+
+-- an item expired
+abbrev pub IsExpiry : Deed → Type 0
+IsExpiry (Asked request) = ⊥
+IsExpiry (Expired key) = ⊤
+IsExpiry Looked = ⊥
+
+-- an item that had expired at the latest moment was removed
+abbrev pub IsRemoval : Entry → Type 0
+IsRemoval e = IsExpiry e.deed × (e.caller ≡ 0) × (e.moment ≡ last_moment)
+
+-- a look at the latest moment removed no item
+abbrev pub IsLook : Entry → Type 0
+IsLook e = (e.deed ≡ Looked) × (e.caller ≡ 0) × (e.moment ≡ last_moment)
+
+-- The last look of a sweep: it was answered `Done` only where no item is due after it. Over a keeper that does not tell its items there may be none.
+abbrev pub EndsSweep : Option (List ℕ → Option Item) → List Entry → Type 0
+EndsSweep told [] = told ≡ None
+EndsSweep told (e ∷ []) = IsLook e × (e.reply ≡ Done → TellsDue told last_moment None)
+EndsSweep told (e ∷ f ∷ es) = ⊥
+
+-- ---- the text
+
+-- how many replies have this status
+abbrev pub count_of : ℕ → List Entry → ℕ
+count_of status list = count_by (λ e. status_number e.reply == status) list
+
+-- a text, and behind it a name, a number and a line feed
+infixl 5 ◌and◌
+abbrev pub ◌and◌ : List ℕ → List ℕ × ℕ → List ℕ
+text and counted = text ++ (counted.0 ++ codes " " ++ decimal counted.1 ++ codes "\n")
+
+-- what a load writes: how many requests it made, the replies by their status, and how many items expired at its end
+unfoldable pub load_text : List Entry → List Entry → List ℕ
+load_text requests removals =
+    [] and (codes "requests", length requests) and (codes "200", count_of 200 requests) and (codes "400", count_of 400 requests)
+    and (codes "404", count_of 404 requests) and (codes "423", count_of 423 requests) and (codes "500", count_of 500 requests)
+    and (codes "503", count_of 503 requests) and (codes "507", count_of 507 requests) and (codes "removed", length removals)
+
+-- ---- the run
+
+-- The text was written on status 0, and a front of it on status 5; on status 6 nothing was written, and requests may be missing.
+abbrev pub EndsLoad : ℕ → ℕ → Option (List ℕ) → Option (List ℕ) → Option (List ℕ → Option Item) → List Entry → List Entry → List Entry → Type 0
+EndsLoad n status sink sink' told requests removals looks =
+    ((status ≡ 0) × (length requests ≡ n) × EndsSweep told looks × Takes sink sink' (load_text requests removals))
+    ⊎ (((status ≡ 5) × (length requests ≡ n) × EndsSweep told looks × TakesFront sink sink' (load_text requests removals))
+    ⊎ ((status ≡ 6) × (sink' ≡ sink)))
+
+-- A load of n requests: the requests by the generator's numbers, then items that expired, and a last look. The keeper that is handed back has the items
+-- and the count after these entries. (CanCount says which counts of faults the keeper's type can have; told and faults are what the keeper tells and counts then.)
+pub record IsLoad (CanCount : ℕ → Type 0) (n seed : ℕ) (sink sink' : Option (List ℕ)) (told : Option (List ℕ → Option Item)) (faults status : ℕ) : Type 0 where
+  pub requests : List Entry
+  pub removals : List Entry
+  pub looks : List Entry
+  pub made : AreMade (seeded seed) 0 requests
+  pub removed : AllByRecursion IsRemoval removals
+  pub stands : StandsFor nothing 0 (requests ++ removals ++ looks) told faults
+  pub counts : AllByRecursion (λ e. CanCount e.faults) (requests ++ removals ++ looks)
+  pub ends : EndsLoad n status sink sink' told requests removals looks

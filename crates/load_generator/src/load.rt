@@ -1,0 +1,99 @@
+//! A load, from its first request to its text.
+ghost use Rattle.std.specs.Prelude.{◌≡◌, ◌⊎◌, ◌<◌, ◌≤◌, ◌^◌, ℕ, List, [], length, IfOk, OnErr, MatchResult};
+ghost use Rattle.asp_base.specs.Causes.{Rose};
+ghost use Rattle.asp_base.specs.Outside.{Takes, TakesFront};
+ghost use Rattle.asp_messages.specs.Fields.{most_cookie};
+ghost use Rattle.desk.specs.Standing.{DeskStandsFor};
+ghost use Rattle.keeper.specs.Items.{IsEmptyTold};
+ghost use Rattle.session_machine.specs.declared.entry.Entry.{Entry};
+ghost use Rattle.session_machine.specs.History.{nothing};
+ghost use Rattle.load_generator.specs.Counting.{CountsAre, counts_text};
+ghost use Rattle.load_generator.specs.Steps.{HasAsked};
+ghost use Rattle.load_generator.specs.Run.{IsLoad};
+ghost use Rattle.load_generator.specs.Running.{LoadFits, WritesCounts};
+
+use crate::counts::Counts;
+use crate::generator::Generator;
+use crate::sweep::sweep;
+use asp_base::{Failed, NoMemory, Sink, write_whole};
+use asp_messages::MOST_COOKIE;
+use desk::Desk;
+use keeper::{Keeper, Ran};
+use std::alloc::Global;
+
+/// What a load is told.
+#[derive(Clone, Copy, Debug, PartialEq, Eq)]
+pub struct Load {
+    /// How many requests are made, at most 1,000,000.
+    pub requests: u64,
+    /// Where the numbers of the generator start, below 2^31.
+    pub seed: u64,
+}
+
+/// Makes each request of the load and counts its reply.
+fn ask_all<K: Keeper>(alloc: Global, load: Load, desk: &mut Desk<K>) -> Result<Counts, NoMemory>
+    requires load { LoadFits load }
+    requires desk { HasAsked K.can_count load.seed [] (K.told desk.old.keeper) (K.count desk.old.keeper) desk.old.cookies }
+    requires last { desk.old.cookies.last ≡ most_cookie }
+    ensures asked { (list : List Entry) × HasAsked K.can_count load.seed list (K.told desk.new.keeper) (K.count desk.new.keeper) desk.new.cookies
+        × IfOk result (λ counts. (length list ≡ load.requests) × CountsAre counts list) }
+    ensures floor { K.floor desk.new.keeper ≡ K.floor desk.old.keeper }
+{
+    let mut generator = Generator::new(load.seed);
+    let mut counts = Counts::new();
+    for _ in 0..load.requests {
+        let request = generator.request(alloc)?;
+        let acted = desk.act(request, generator.moment());
+        counts.count(&acted.reply);
+        generator.heard(&acted.reply);
+    }
+    Ok(counts)
+}
+
+/// Writes what was counted, and answers a status: 0, 5 where the sink failed, or 6 where there was no
+/// memory for the text and nothing was written.
+fn write_counts<T: Sink>(
+    alloc: Global,
+    requests: u64,
+    counts: Counts,
+    removed: u64,
+    sink: &mut T,
+) -> u8
+    ensures writes { WritesCounts result (T.taken sink.old) (T.taken sink.new) (counts_text requests counts removed) }
+    ensures fault { result ≡ 5 → Rose (T.faults sink.old) (T.faults sink.new) }
+{
+    let Ok(text) = counts.text(alloc, requests, removed) else {
+        return 6;
+    };
+    match write_whole(sink, text.as_slice()) {
+        Ok(()) => 0,
+        Err(Failed) => 5,
+    }
+}
+
+/// Makes the requests of a load over the keeper, sweeps at the latest moment, writes the counts, and
+/// hands the keeper back. It reads nothing, waits for nobody, and returns.
+///
+/// The status is 0; 5 where the sink failed; 6 where memory was wanting, and then nothing was
+/// written.
+pub fn run_load<T: Sink, K: Keeper>(alloc: Global, load: Load, sink: &mut T, keeper: K) -> Ran<K>
+    requires load { LoadFits load }
+    requires no_faults { K.count keeper ≡ 0 }
+    requires empty { IsEmptyTold (K.told keeper) }
+    ensures load { IsLoad K.can_count load.requests load.seed (T.taken sink.old) (T.taken sink.new) (K.told result.keeper) (K.count result.keeper) result.status }
+    ensures write { result.status ≡ 5 → Rose (T.faults sink.old) (T.faults sink.new) }
+    ensures floor { K.floor result.keeper ≡ K.floor keeper }
+{
+    let mut desk = Desk::new(alloc, keeper, 1, MOST_COOKIE);
+    let Ok(counts) = ask_all(alloc, load, &mut desk) else {
+        return Ran {
+            status: 6,
+            keeper: desk.into_keeper(),
+        };
+    };
+    let removed = sweep(&mut desk, load.requests + 1);
+    Ran {
+        status: write_counts(alloc, load.requests, counts, removed, sink),
+        keeper: desk.into_keeper(),
+    }
+}
