@@ -1,5 +1,5 @@
 -- One deed on the items: what it leaves of them, or why it may not be done.
-use Rattle.std.specs.Prelude.{◌≡◌, ℕ, List, Option, Some, None, Bool, false, IfSome, IsTrue, ⊤, ⊥}
+use Rattle.std.specs.Prelude.{◌≡◌, ℕ, List, Option, Some, None, Bool, false, IfSome, IsTrue, ⊤}
 use Rattle.std.specs.Str.{bytes_eq}
 use Rattle.asp_messages.specs.declared.reply.Reply.{Reply}
 use Rattle.asp_messages.specs.declared.reply.Reply.TheVariants.{Done, KeeperFault, NoMemory}
@@ -41,17 +41,17 @@ abbrev pub IsWrongThere : Option Item → ℕ → ℕ → Bool → Request → R
 IsWrongThere old t drawn rose request reply why =
     (why ≡ WrongReply (own_reply old t drawn request) reply) × IsWrongReply rose (own_reply old t drawn request) reply
 
--- what is left is this item, or nothing and its key
-abbrev pub IsLeft : Option Item → List ℕ → Item → Left → Type 0
-IsLeft after key item (left.Wrong why) = ⊥
-IsLeft after key item left.Item = after ≡ Some item
-IsLeft after key item (left.Nothing gone) = (after ≡ None) × (gone ≡ key)
+-- what is left is the new item, or nothing, and the item that was there is still to be removed
+abbrev pub IsLeft : Option Item → List ℕ → Item → Item → Left → Type 0
+IsLeft after key old new (left.Wrong why) = ⊥
+IsLeft after key old new left.Item = after ≡ Some new
+IsLeft after key old new (left.Nothing gone) = (after ≡ None) × (gone ≡ key) × (new ≡ old)
 
 -- what a request leaves of the item that is there, or why it may not have been answered so
 abbrev pub Leaves : Item → Item → ℕ → ℕ → Bool → Request → Reply → Left → Type 0
 Leaves old new t drawn rose request reply (left.Wrong why) = IsWrongThere (Some old) t drawn rose request reply why
 Leaves old new t drawn rose request reply left =
-    IsRightReply rose (own_reply (Some old) t drawn request) reply × IsLeft (after_reply (Some old) t drawn request.ask reply) request.key new left
+    IsRightReply rose (own_reply (Some old) t drawn request) reply × IsLeft (after_reply (Some old) t drawn request.ask reply) request.key old new left
 
 -- the deed may be done, and leaves the items so
 abbrev pub IsDone : List (List ℕ × Item) → List (List ℕ × Item) → Deed → ℕ → ℕ → Bool → Reply → Type 0

@@ -1,5 +1,5 @@
 -- The judgement of a list of entries: a legal history from no items and no fault, or the first entry that may not stand, and why.
-use Rattle.std.specs.Prelude.{◌≡◌, ◌≢◌, ◌⊎◌, ℕ, ◌+◌, ◌<◌, ◌≤◌, List, ◌∷◌, ◌++◌, length, Option, Some, None, Bool, IsTrue, IsFalse, ⊤, ⊥}
+use Rattle.std.specs.Prelude.{◌≡◌, ◌≢◌, ◌⊎◌, ℕ, ◌+◌, ◌<◌, ◌≤◌, List, ◌∷◌, ◌++◌, length, Option, Some, None, Bool, IsTrue, IsFalse, ⊤}
 use Rattle.asp_messages.specs.declared.reply.Reply.{Reply}
 use Rattle.asp_messages.specs.declared.reply.Reply.TheVariants.{Done, KeeperFault, NoMemory}
 use Rattle.session_machine.specs.declared.entry.Entry.{Entry}

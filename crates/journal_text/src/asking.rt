@@ -1,5 +1,5 @@
 //! One request on the items of a history.
-ghost use Rattle.std.specs.Prelude.{◌≡◌, ◌≤◌, ◌^◌, Some, None, IfOk, IfSome, MatchOption, OnOk, OnErr, if◌then◌else◌};
+ghost use Rattle.std.specs.Prelude.{◌≡◌, ◌≤◌, ◌^◌, [], Some, None, IfOk, IfSome, MatchOption, OnOk, OnErr, if◌then◌else◌};
 ghost use Rattle.asp_messages.specs.Ranges.{RequestFits};
 ghost use Rattle.session_machine.specs.declared.entry.Deed.TheVariants.{Asked};
 ghost use Rattle.session_machine.specs.History.{DrawFits};
@@ -50,7 +50,7 @@ fn body_made(alloc: Global, of_request: bool, ask: Ask) -> Bytes
 
 /// Makes the change to an item that is there.
 fn change_there(alloc: Global, item: &mut Item, request: Request, change: Change) -> Left
-    ensures { IsLeft (changed change (Some item.old) request.ask) request.key item.new result }
+    ensures { IsLeft (changed change (Some item.old) request.ask) request.key item.old item.new result }
 {
     let Request { key, ask } = request;
     match change {

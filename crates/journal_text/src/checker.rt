@@ -5,8 +5,8 @@ ghost use Rattle.session_machine.specs.History.{IsFormed};
 ghost use Rattle.journal_text.specs.Checking.{HasTaken};
 ghost use Rattle.journal_text.specs.Judging.{Judges};
 
+use crate::Judgement;
 use crate::standing::Standing;
-use crate::{Judgement, Why};
 use asp_base::NoMemory;
 use session_machine::Entry;
 use std::alloc::Global;
@@ -40,6 +40,7 @@ impl Checker {
     pub fn new(alloc: Global, first_place: u64) -> Checker
         requires { first_place < 2 ^ 63 - 1 }
         ensures first { result.first ≡ first_place }
+        ensures count { result.taken ≡ 0 }
         ensures taken { HasTaken result [] }
     {
         Checker {
@@ -48,21 +49,6 @@ impl Checker {
             taken: 0,
             verdict: Judgement::Legal { entries: 0 },
             standing: Standing::new(alloc),
-        }
-    }
-
-    /// The judgement of the entry that comes next, where those before it are legal.
-    fn judge(&mut self, entry: Entry) -> Result<Judgement, NoMemory>
-        requires few { self.old.taken < 2 ^ 63 - 1 }
-        requires entry { IsFormed entry }
-        ensures same { (self.new.first ≡ self.old.first) × (self.new.taken ≡ self.old.taken) × (self.new.verdict ≡ self.old.verdict) }
-    {
-        let place = self.first_place + self.taken;
-        match self.standing.judge(self.alloc, entry)? {
-            None => Ok(Judgement::Legal {
-                entries: self.taken + 1,
-            }),
-            Some(why) => Ok(Judgement::Illegal { place, why }),
         }
     }
 
@@ -78,9 +64,12 @@ impl Checker {
         ensures first { self.new.first ≡ self.old.first }
         ensures err { OnErr result (self.new ≡ self.old) }
     {
-        if let Judgement::Legal { .. } = self.verdict {
-            self.verdict = self.judge(entry)?;
+        if let Judgement::Illegal { .. } = self.verdict {
+            self.taken += 1;
+            return Ok(());
         }
+        let place = self.first_place + self.taken;
+        self.verdict = self.standing.judge(self.alloc, entry, place, self.taken)?;
         self.taken += 1;
         Ok(())
     }

@@ -50,7 +50,10 @@ fn is_found(reply: &Reply, item: &Item, cookie: u64, first: bool) -> bool
             minutes,
             cookie: found,
             first: told,
-        } => *body == item.body && *minutes == item.minutes && *found == named(cookie) && *told == first,
+        } => *body == item.body
+            && *minutes == item.minutes
+            && *found == named(cookie)
+            && *told == first,
         _ => false,
     }
 }
@@ -64,7 +67,10 @@ fn is_own(reply: &Reply, kind: Kind, item: Option<&Item>) -> bool
         (Kind::Found { .. }, None) => matches!(reply, Reply::Bad),
         (Kind::Done, _) => matches!(reply, Reply::Done),
         (Kind::Locked { cookie, age }, _) => match reply {
-            Reply::Locked { cookie: found, age: told } => *found == cookie && *told == age,
+            Reply::Locked {
+                cookie: found,
+                age: told,
+            } => *found == cookie && *told == age,
             _ => false,
         },
         (Kind::Missing, _) => matches!(reply, Reply::Missing),

@@ -1,16 +1,16 @@
 //! What is known behind a legal history, and whether an entry may stand next.
-ghost use Rattle.std.specs.Prelude.{◌≡◌, ◌≤◌, ◌^◌, ◌++◌, ◌∷◌, [], List, IfOk, MatchOption, OnErr, false};
+ghost use Rattle.std.specs.Prelude.{◌≡◌, ◌⊎◌, ℕ, ◌+◌, ◌-◌, ◌<◌, ◌≤◌, ◌^◌, ◌++◌, ◌∷◌, [], List, length, IfOk, IsFalse, IsTrue, MatchOption, OnErr, false};
 ghost use Rattle.asp_messages.specs.declared.reply.Reply.TheVariants.{Done};
 ghost use Rattle.session_machine.specs.declared.entry.Deed.TheVariants.{Expired};
 ghost use Rattle.session_machine.specs.declared.entry.Entry.{Entry};
 ghost use Rattle.session_machine.specs.History.{DeedFits, IsFormed, IsLegal, nothing};
-ghost use Rattle.journal_text.specs.Checking.{Knows};
+ghost use Rattle.journal_text.specs.Checking.{Knows, KnowsWhileLegal};
 ghost use Rattle.journal_text.specs.Deeds.{IsBarred, IsDone, ItemsFit};
-ghost use Rattle.journal_text.specs.Judging.{IsReason};
+ghost use Rattle.journal_text.specs.Judging.{IsReason, Judges};
 
-use crate::Why;
 use crate::asking::ask;
 use crate::replies::{has_risen, wrong_reply};
+use crate::{Judgement, Why};
 use asp_base::{Bytes, NoMemory};
 use asp_messages::Reply;
 use session_machine::{Deed, Entry, Item, Kind, live};
@@ -74,6 +74,14 @@ fn act(
     }
 }
 
+/// Whether no cookie was drawn, or a greater one than `above`.
+fn raises(above: u64, drawn: u64) -> bool
+    ensures raises { IsTrue result → (drawn ≡ 0) ⊎ (above < drawn) }
+    ensures back { IsFalse result → (0 < drawn) × (drawn ≤ above) }
+{
+    drawn == 0 || drawn > above
+}
+
 impl Standing {
     /// No item, no fault and no cookie. It takes no memory.
     pub fn new(alloc: Global) -> Standing
@@ -87,9 +95,9 @@ impl Standing {
     }
 
     /// Why the entry may not stand next, or `None` where it may, which is then known too.
-    pub fn judge(&mut self, alloc: Global, entry: Entry) -> Result<Option<Why>, NoMemory>
+    fn admit(&mut self, alloc: Global, entry: Entry) -> Result<Option<Why>, NoMemory>
         requires { IsFormed entry }
-        ensures next { (before : List Entry) → IsLegal nothing 0 before → Knows self.old before
+        ensures admitted { (before : List Entry) → IsLegal nothing 0 before → Knows self.old before
             → IfOk result (λ why. MatchOption why (IsLegal nothing 0 (before ++ entry ∷ []) × Knows self.new (before ++ entry ∷ [])) (IsReason before entry)) }
         ensures err { OnErr result (self.new ≡ self.old) }
     {
@@ -107,18 +115,40 @@ impl Standing {
                 found: faults,
             }));
         }
-        if drawn > 0 && drawn <= self.above {
+        if !raises(self.above, drawn) {
             return Ok(Some(Why::CookieBack {
                 above: self.above,
                 found: drawn,
             }));
         }
         let rose = has_risen(self.faults, faults);
-        let why = act(alloc, &mut self.items, deed, moment, drawn, rose, reply)?;
-        if why.is_none() {
-            self.faults = faults;
-            self.above = self.above.max(drawn);
+        match act(alloc, &mut self.items, deed, moment, drawn, rose, reply)? {
+            Some(why) => Ok(Some(why)),
+            None => {
+                self.faults = faults;
+                self.above = self.above.max(drawn);
+                Ok(None)
+            }
         }
-        Ok(why)
+    }
+
+    /// The judgement of `taken` legal entries and this one, which has the place `place`.
+    pub fn judge(
+        &mut self,
+        alloc: Global,
+        entry: Entry,
+        place: u64,
+        taken: u64,
+    ) -> Result<Judgement, NoMemory>
+        requires entry { IsFormed entry }
+        requires few { taken < 2 ^ 63 - 1 }
+        ensures judged { (first : ℕ) (before : List Entry) → place ≡ first + length before → taken ≡ length before → IsLegal nothing 0 before → Knows self.old before
+            → IfOk result (λ judgement. Judges first (before ++ entry ∷ []) judgement × KnowsWhileLegal judgement self.new (before ++ entry ∷ [])) }
+        ensures err { OnErr result (self.new ≡ self.old) }
+    {
+        match self.admit(alloc, entry)? {
+            Some(why) => Ok(Judgement::Illegal { place, why }),
+            None => Ok(Judgement::Legal { entries: taken + 1 }),
+        }
     }
 }

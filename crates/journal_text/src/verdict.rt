@@ -17,7 +17,7 @@ fn push(out: &mut Vec<u8>, text: &[u8]) -> Result<(), NoMemory>
     Ok(())
 }
 
-/// Appends a space, the words and a number.
+/// Appends the words and a number.
 fn push_count(out: &mut Vec<u8>, words: &[u8], n: u64) -> Result<(), NoMemory>
     ensures ok { OnOk result (out.new.items ≡ out.old.items ++ (words.now then decimal n)) }
     ensures err { OnErr result (Extends out.old.items out.new.items) }
@@ -26,6 +26,15 @@ fn push_count(out: &mut Vec<u8>, words: &[u8], n: u64) -> Result<(), NoMemory>
     push(out, words)?;
     push(out, b" ")?;
     push(out, buffer.format(n).as_bytes())
+}
+
+/// Appends the words, a number, and the number that was found.
+fn push_counts(out: &mut Vec<u8>, words: &[u8], n: u64, found: u64) -> Result<(), NoMemory>
+    ensures ok { OnOk result (out.new.items ≡ out.old.items ++ (words.now then decimal n then codes "found" then decimal found)) }
+    ensures err { OnErr result (Extends out.old.items out.new.items) }
+{
+    push_count(out, words, n)?;
+    push_count(out, b" found", found)
 }
 
 /// Appends the words and a reply.
@@ -43,14 +52,8 @@ fn push_why(out: &mut Vec<u8>, why: &Why) -> Result<(), NoMemory>
     ensures err { OnErr result (Extends out.old.items out.new.items) }
 {
     match why {
-        Why::FaultsFell { before, found } => {
-            push_count(out, b"faults", *before)?;
-            push_count(out, b" found", *found)
-        }
-        Why::CookieBack { above, found } => {
-            push_count(out, b"cookie above", *above)?;
-            push_count(out, b" found", *found)
-        }
+        Why::FaultsFell { before, found } => push_counts(out, b"faults", *before, *found),
+        Why::CookieBack { above, found } => push_counts(out, b"cookie above", *above, *found),
         Why::NotDue => push(out, b"not due"),
         Why::WrongReply { expected, found } => {
             push_reply(out, b"expected", expected)?;
@@ -73,6 +76,7 @@ fn push_judgement(out: &mut Vec<u8>, judgement: &Judgement) -> Result<(), NoMemo
     }
 }
 
+#[tactic(auto, unfolding(crate::specs::Verdict::judgement_line))]
 fn push_line(out: &mut Vec<u8>, judgement: &Judgement) -> Result<(), NoMemory>
     ensures ok { OnOk result (out.new.items ≡ out.old.items ++ judgement_line judgement.now) }
     ensures err { OnErr result (Extends out.old.items out.new.items) }
