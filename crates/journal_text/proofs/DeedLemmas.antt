@@ -1,19 +1,16 @@
 -- A deed that is done makes a legal history go on; one that is barred is the reason why it may not.
-use Rattle.std.proofs.Common.{zero, suc, inl, inr, arith, ◌≡◌, ℕ, ◌+◌, ◌≤◌, ◌<◌, max, Bool, true, false, List, [], ◌∷◌, ◌++◌, length, Option, Some, None, refl, sym, ap, ◌∙◌, subst}
+use Rattle.std.proofs.Common.{◌≡◌, ℕ, ◌≤◌, ◌<◌, max, Bool, true, false, List, [], ◌∷◌, ◌++◌, refl, sym, ap, ◌∙◌, subst}
 use Rattle.std.specs.Prelude.{◌⊎◌}
-use Rattle.asp_messages.specs.declared.reply.Reply.{Reply}
-use Rattle.asp_messages.specs.declared.reply.Reply.TheVariants as replies
 use Rattle.session_machine.specs.declared.entry.Entry.{Entry}
 use Rattle.session_machine.specs.declared.entry.Deed.{Deed}
 use Rattle.session_machine.specs.declared.entry.Deed.TheVariants.{Asked, Expired, Looked}
 use Rattle.session_machine.specs.declared.item.Item.{Item}
 use Rattle.session_machine.specs.History.{DeedFits, DeedStands, IsFormed, IsLegal, LookStands, after_deed, has_risen, is_deed_of, nothing}
-use Rattle.session_machine.proofs.HistoryLemmas.{MayFollow, IsLegal-push, count_after-push, greatest_draw-push, item_after-other, item_after-same}
+use Rattle.session_machine.proofs.HistoryLemmas.{IsLegal-push, count_after-push, greatest_draw-push, item_after-other, item_after-same}
 use Rattle.journal_text.specs.declared.judgement.Why.{Why}
-use Rattle.journal_text.specs.declared.judgement.Why.TheVariants.{FaultsFell, CookieBack, NotDue, WrongReply}
 use Rattle.journal_text.specs.Checking.{Known, Knows, item_among}
-use Rattle.journal_text.specs.Deeds.{IsBarred, IsDone, Sets, own_reply}
-use Rattle.journal_text.specs.Judging.{IsDueThere, IsNotDead, IsNotDueThere, IsReason, IsRightReply, IsWrongReply, KeepsCount, RaisesDraw, count_before, draw_before, item_before, reply_due, rose_with}
+use Rattle.journal_text.specs.Deeds.{IsBarred, IsDone, own_reply}
+use Rattle.journal_text.specs.Judging.{IsDueThere, IsNotDead, IsNotDueThere, IsReason, KeepsCount, RaisesDraw, item_before, reply_due, rose_with}
 use Rattle.journal_text.proofs.JudgingLemmas.{bytes_eq-same, right-looks, right-steps}
 
 module _ (before : List Entry) (e : Entry) (old new : List (List ℕ × Item)) (are : (key : List ℕ) → item_among old key ≡ item_before before key) where

@@ -1,6 +1,6 @@
 -- A list has one judgement.
-use Rattle.std.proofs.Common.{zero, suc, inl, inr, arith, ◌≡◌, ℕ, ◌+◌, ◌≤◌, ◌<◌, Bool, true, false, List, [], ◌∷◌, ◌++◌, length, Option, Some, None, refl, sym, ap, ◌∙◌, subst, append_assoc}
-use Rattle.std.specs.Prelude.{◌⊎◌, IsTrue, IsFalse}
+use Rattle.std.proofs.Common.{inl, inr, arith, ◌≡◌, ℕ, ◌+◌, ◌≤◌, ◌<◌, Bool, true, List, [], ◌∷◌, ◌++◌, length, Option, Some, None, refl, sym, ap, ◌∙◌, subst, append_assoc}
+use Rattle.std.specs.Prelude.{◌⊎◌}
 use Rattle.std.specs.Str.{bytes_eq}
 use Rattle.std.proofs.lemmas.Slice.Eq.{bytes_eq-Decides}
 use Rattle.asp_messages.specs.declared.request.Ask.{Ask}
@@ -11,13 +11,13 @@ use Rattle.session_machine.specs.declared.entry.Deed.{Deed}
 use Rattle.session_machine.specs.declared.entry.Deed.TheVariants.{Asked, Expired, Looked}
 use Rattle.session_machine.specs.declared.item.Item.{Item}
 use Rattle.session_machine.specs.Machine.{Effect, effect, Step}
-use Rattle.session_machine.specs.History.{DeedFits, DeedStands, IsDead, IsFormed, IsLegal, LookStands, after_reply, has_risen, is_deed_of, nothing}
-use Rattle.session_machine.proofs.HistoryLemmas.{MayFollow, IsLegal-at, IsLegal-front}
+use Rattle.session_machine.specs.History.{DeedFits, DeedStands, IsDead, IsLegal, LookStands, after_reply, is_deed_of, nothing}
+use Rattle.session_machine.proofs.HistoryLemmas.{MayFollow, IsLegal-at}
 use Rattle.journal_text.specs.declared.judgement.Judgement.{Judgement}
 use Rattle.journal_text.specs.declared.judgement.Judgement.TheVariants.{Legal, Illegal}
 use Rattle.journal_text.specs.declared.judgement.Why.{Why}
 use Rattle.journal_text.specs.declared.judgement.Why.TheVariants.{FaultsFell, CookieBack, NotDue, WrongReply}
-use Rattle.journal_text.specs.Judging.{IsDueThere, IsNotDead, IsNotDueThere, IsReason, IsRightReply, IsWrongReply, Judges, KeepsCount, RaisesDraw, StopsAtPlace, count_before, draw_before, item_before, reply_due, rose_with}
+use Rattle.journal_text.specs.Judging.{IsDueThere, IsNotDead, IsNotDueThere, IsReason, IsRightReply, IsWrongReply, Judges, StopsAtPlace, item_before, reply_due, rose_with}
 
 pub bytes_eq-refl : (a : List ℕ) → bytes_eq a a ≡ true
 bytes_eq-refl a = (bytes_eq-Decides a a).1 refl

@@ -4,7 +4,7 @@ use Rattle.asp_messages.specs.declared.reply.Reply.{Reply}
 use Rattle.asp_messages.specs.declared.reply.Reply.TheVariants.{Done, KeeperFault, NoMemory}
 use Rattle.session_machine.specs.declared.entry.Entry.{Entry}
 use Rattle.session_machine.specs.declared.entry.Deed.{Deed}
-use Rattle.session_machine.specs.declared.entry.Deed.TheVariants.{Asked, Expired, Looked}
+use Rattle.session_machine.specs.declared.entry.Deed.TheVariants.{Asked, Expired}
 use Rattle.session_machine.specs.declared.item.Item.{Item}
 use Rattle.session_machine.specs.Liveness.{is_live}
 use Rattle.session_machine.specs.Machine.{effect}

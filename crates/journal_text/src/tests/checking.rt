@@ -12,6 +12,12 @@ use std::process::Abort;
 use std::str;
 use std::test::Fail;
 
+// The greatest cookie, and the end of places.
+const LAST: u64 = 9_223_372_036_854_775_807;
+
+// The end of the counts of faults.
+const LAST_COUNT: u64 = 18_446_744_073_709_551_615;
+
 // What is done to the item of one key; cookie 0 is none.
 #[derive(Clone, Copy)]
 enum Did {
@@ -183,5 +189,144 @@ fn write_under_a_lock_fails_where_done_was_answered(rt: HostRuntime) -> Result<(
         &steps,
         ">place 2 expected locked 1 1 found done\n",
     )?;
-    judge(&rt, rt.alloc(), 0, &steps[..2], ">legal 2\n")
+    let front: [Step; 2] = [
+        (b'a', 0, Write(0), 0, Done, 0),
+        (b'a', 1000, Acquire, 1, Found(1, false), 0),
+    ];
+    judge(&rt, rt.alloc(), 0, &front, ">legal 2\n")
+}
+
+#[test]
+fn count_of_faults_that_falls_comes_before_other_reasons(rt: HostRuntime) -> Result<(), Fail> {
+    let fell: [Step; 3] = [
+        (b'a', 0, Looked, 0, KeeperFault, 2),
+        (b'a', 0, Acquire, 7, Missing, 2),
+        (b'a', 0, Acquire, 7, Done, 1),
+    ];
+    judge(&rt, rt.alloc(), 5, &fell, ">place 7 faults 2 found 1\n")
+}
+
+#[test]
+fn cookie_that_comes_back_is_told_with_the_greatest_before(rt: HostRuntime) -> Result<(), Fail> {
+    let back: [Step; 4] = [
+        (b'a', 0, Acquire, 9, Missing, 0),
+        (b'b', 0, Acquire, 0, CookiesOut, 0),
+        (b'b', 0, Acquire, 9, Done, 0),
+        (b'b', 0, Looked, 0, KeeperFault, 0),
+    ];
+    judge(
+        &rt,
+        rt.alloc(),
+        0,
+        &back,
+        ">place 2 cookie above 9 found 9\n",
+    )
+}
+
+#[test]
+fn last_place_and_last_cookie_are_named(rt: HostRuntime) -> Result<(), Fail> {
+    let last: [Step; 2] = [
+        (b'a', 0, Acquire, LAST, Answer::NoMemory, 0),
+        (b'a', 0, Acquire, 1, Missing, 0),
+    ];
+    let wanted = ">place 9223372036854775807 cookie above 9223372036854775807 found 1\n";
+    judge(&rt, rt.alloc(), LAST - 1, &last, wanted)
+}
+
+#[test]
+fn item_expires_only_where_it_is_there_and_dead(rt: HostRuntime) -> Result<(), Fail> {
+    let absent: [Step; 1] = [(b'a', 0, Expired, 0, Done, 0)];
+    judge(&rt, rt.alloc(), 0, &absent, ">place 0 not due\n")?;
+    let early: [Step; 2] = [
+        (b'a', 0, Write(0), 0, Done, 0),
+        (b'a', 1_199_999, Expired, 0, Done, 0),
+    ];
+    judge(&rt, rt.alloc(), 0, &early, ">place 1 not due\n")?;
+    let other: [Step; 2] = [
+        (b'a', 0, Write(0), 0, Done, 0),
+        (b'b', 1_200_000, Expired, 0, Done, 0),
+    ];
+    judge(&rt, rt.alloc(), 0, &other, ">place 1 not due\n")?;
+    let due: [Step; 3] = [
+        (b'a', 0, Write(0), 0, Done, 0),
+        (b'a', 1_200_000, Expired, 0, Done, 0),
+        (b'a', 0, Read, 0, Missing, 0),
+    ];
+    judge(&rt, rt.alloc(), 0, &due, ">legal 3\n")
+}
+
+#[test]
+fn fault_of_the_keeper_is_right_where_the_count_rose(rt: HostRuntime) -> Result<(), Fail> {
+    let risen: [Step; 4] = [
+        (b'a', 0, Write(0), 0, KeeperFault, 1),
+        (b'a', 0, Read, 0, Missing, 1),
+        (b'a', 0, Looked, 0, KeeperFault, LAST_COUNT),
+        (b'a', 0, Read, 0, KeeperFault, LAST_COUNT),
+    ];
+    judge(&rt, rt.alloc(), 0, &risen, ">legal 4\n")?;
+    let asked: [Step; 1] = [(b'a', 0, Read, 0, KeeperFault, 0)];
+    judge(
+        &rt,
+        rt.alloc(),
+        0,
+        &asked,
+        ">place 0 expected missing found keeper-fault\n",
+    )?;
+    let looked: [Step; 1] = [(b'a', 0, Looked, 0, KeeperFault, 0)];
+    judge(
+        &rt,
+        rt.alloc(),
+        0,
+        &looked,
+        ">place 0 expected done found keeper-fault\n",
+    )
+}
+
+#[test]
+fn want_of_memory_leaves_the_item(rt: HostRuntime) -> Result<(), Fail> {
+    let steps: [Step; 4] = [
+        (b'a', 0, Looked, 0, Answer::NoMemory, 0),
+        (b'a', 0, Fresh, 0, Done, 0),
+        (b'a', 0, Remove(0), 0, Answer::NoMemory, 0),
+        (b'a', 0, Read, 0, Found(0, false), 0),
+    ];
+    judge(
+        &rt,
+        rt.alloc(),
+        0,
+        &steps,
+        ">place 3 expected found 0 20 1 x78 found found 0 20 0 x78\n",
+    )
+}
+
+#[test]
+fn item_of_a_key_lives_from_its_making_to_its_removal(rt: HostRuntime) -> Result<(), Fail> {
+    let steps: [Step; 10] = [
+        (b'a', 0, Fresh, 0, Done, 0),
+        (b'b', 0, Read, 0, Missing, 0),
+        (b'a', 5, Acquire, 3, Found(3, true), 0),
+        (b'a', 5, Reset, 0, Done, 0),
+        (b'a', 2005, Release(2), 0, Locked(3, 2), 0),
+        (b'a', 2005, Write(3), 0, Done, 0),
+        (b'a', 2005, Read, 0, Found(0, false), 0),
+        (b'a', 2005, Remove(0), 0, Done, 0),
+        (b'a', 2005, Remove(0), 0, Missing, 0),
+        (b'a', 2005, Release(3), 0, Done, 0),
+    ];
+    judge(
+        &rt,
+        rt.alloc(),
+        0,
+        &steps,
+        ">place 9 expected missing found done\n",
+    )
+}
+
+#[test]
+fn no_entry_is_a_legal_history(rt: HostRuntime) -> Result<(), Fail> {
+    one_judgement();
+    legal_is_judged_legal();
+    illegal_stays();
+    let none: [Step; 0] = [];
+    judge(&rt, rt.alloc(), LAST - 1, &none, ">legal 0\n")
 }
