@@ -4,7 +4,7 @@ use Rattle.std.specs.Prelude.{◌⊎◌}
 use Rattle.std.specs.List.{AllByRecursion}
 use Rattle.session_machine.specs.declared.entry.Entry.{Entry}
 use Rattle.session_machine.specs.declared.item.Item.{Item}
-use Rattle.session_machine.specs.History.{Marked, has_risen, marked, is_deed_of, entries_of, after_entry, after_entries, DeedStands, Lead, CountsRise, DrawsRise, IsHeldBelow, LookStands, IsFormed, IsLegal, IsFreshDraw, item_after, count_after}
+use Rattle.session_machine.specs.History.{Marked, has_risen, marked, is_deed_of, entries_of, after_entry, after_entries, DeedStands, Lead, CountsRise, DrawsRise, greatest_draw, IsHeldBelow, LookStands, IsFormed, IsLegal, IsFreshDraw, item_after, count_after}
 
 pub All-push : {X : Type 0} (P : X → Type 0) (xs : List X) (x : X) → AllByRecursion P xs → P x → AllByRecursion P (xs ++ x ∷ [])
 All-push P [] x all p = (p, tt)
@@ -59,10 +59,10 @@ pub count_after-push : (count : ℕ) (es : List Entry) (e : Entry) → count_aft
 count_after-push count [] e = refl
 count_after-push count (f ∷ fs) e = count_after-push f.faults fs e
 
--- the greatest cookie drawn
-abbrev pub greatest_draw : ℕ → List Entry → ℕ
-greatest_draw above [] = above
-greatest_draw above (e ∷ es) = greatest_draw (max above e.drawn) es
+-- so is the greatest cookie that of the draws with its own
+pub greatest_draw-push : (above : ℕ) (es : List Entry) (e : Entry) → greatest_draw above (es ++ e ∷ []) ≡ max (greatest_draw above es) e.drawn
+greatest_draw-push above [] e = refl
+greatest_draw-push above (f ∷ fs) e = greatest_draw-push (max above f.drawn) fs e
 
 DrawsRise-push : (above : ℕ) (es : List Entry) (e : Entry) → DrawsRise above es → (e.drawn ≡ 0) ⊎ (greatest_draw above es < e.drawn) → DrawsRise above (es ++ e ∷ [])
 DrawsRise-push above [] e p draw = (draw, tt)
@@ -110,4 +110,75 @@ IsLegal-push opening count list e legal may = record {
   looks =
       subst (AllByRecursion (λ m. LookStands m.0 m.1.deed m.1.reply)) (sym (marked-push count list e))
       (All-push (λ m. LookStands m.0 m.1.deed m.1.reply) (marked count list) (has_risen (count_after count list) e.faults, e) legal.looks may.looks);
+}
+
+-- ---- a history's parts
+
+All-front : {X : Type 0} (P : X → Type 0) (xs ys : List X) → AllByRecursion P (xs ++ ys) → AllByRecursion P xs
+All-front P [] ys all = tt
+All-front P (x ∷ xs) ys all = (all.0, All-front P xs ys all.1)
+
+All-behind : {X : Type 0} (P : X → Type 0) (xs ys : List X) → AllByRecursion P (xs ++ ys) → AllByRecursion P ys
+All-behind P [] ys all = all
+All-behind P (x ∷ xs) ys all = All-behind P xs ys all.1
+
+marked-append : (count : ℕ) (es fs : List Entry) → marked count (es ++ fs) ≡ marked count es ++ marked (count_after count es) fs
+marked-append count [] fs = refl
+marked-append count (e ∷ es) fs = ap (λ ms. (has_risen count e.faults, e) ∷ ms) (marked-append e.faults es fs)
+
+-- the entries of a key in two parts
+entries_of-parts : (key : List ℕ) (count : ℕ) (es fs : List Entry)
+    → entries_of key (marked count (es ++ fs)) ≡ entries_of key (marked count es) ++ entries_of key (marked (count_after count es) fs)
+entries_of-parts key count es fs = ap (entries_of key) (marked-append count es fs) ∙ entries_of-append key (marked count es) _
+
+CountsRise-front : (count : ℕ) (es fs : List Entry) → CountsRise count (es ++ fs) → CountsRise count es
+CountsRise-front count [] fs p = tt
+CountsRise-front count (e ∷ es) fs p = (p.0, CountsRise-front e.faults es fs p.1)
+
+CountsRise-behind : (count : ℕ) (es fs : List Entry) → CountsRise count (es ++ fs) → CountsRise (count_after count es) fs
+CountsRise-behind count [] fs p = p
+CountsRise-behind count (e ∷ es) fs p = CountsRise-behind e.faults es fs p.1
+
+DrawsRise-front : (above : ℕ) (es fs : List Entry) → DrawsRise above (es ++ fs) → DrawsRise above es
+DrawsRise-front above [] fs p = tt
+DrawsRise-front above (e ∷ es) fs p = (p.0, DrawsRise-front (max above e.drawn) es fs p.1)
+
+DrawsRise-behind : (above : ℕ) (es fs : List Entry) → DrawsRise above (es ++ fs) → DrawsRise (greatest_draw above es) fs
+DrawsRise-behind above [] fs p = p
+DrawsRise-behind above (e ∷ es) fs p = DrawsRise-behind (max above e.drawn) es fs p.1
+
+Lead-front : (old : Option Item) (ms ns : List Marked) → Lead old (ms ++ ns) → Lead old ms
+Lead-front old [] ns p = tt
+Lead-front old (m ∷ ms) ns p = (p.0, Lead-front (after_entry old m) ms ns p.1)
+
+Lead-behind : (old : Option Item) (ms ns : List Marked) → Lead old (ms ++ ns) → Lead (after_entries old ms) ns
+Lead-behind old [] ns p = p
+Lead-behind old (m ∷ ms) ns p = Lead-behind (after_entry old m) ms ns p.1
+
+-- each front of a legal history is legal
+pub IsLegal-front : (opening : List ℕ → Option Item) (count : ℕ) (es fs : List Entry) → IsLegal opening count (es ++ fs) → IsLegal opening count es
+IsLegal-front opening count es fs legal = record {
+  formed = All-front IsFormed es fs legal.formed;
+  counts = CountsRise-front count es fs legal.counts;
+  draws = DrawsRise-front 0 es fs legal.draws;
+  fresh_draws = All-front (λ f. 0 < f.drawn → (key : List ℕ) → IsHeldBelow f.drawn (opening key)) es fs legal.fresh_draws;
+  keys = λ key. Lead-front (opening key) (entries_of key (marked count es)) _ (subst (Lead (opening key)) (entries_of-parts key count es fs) (legal.keys key));
+  looks = All-front (λ m. LookStands m.0 m.1.deed m.1.reply) (marked count es) _ (subst (AllByRecursion (λ m. LookStands m.0 m.1.deed m.1.reply)) (marked-append count es fs) legal.looks);
+}
+
+first_leads : (b : Bool) (old : Option Item) (m : Marked) (ms : List Marked) → b ≡ true → Lead old (cond b (m ∷ ms) ms) → DeedStands old m.0 m.1.deed m.1
+first_leads true old m ms is lead = lead.0
+first_leads false old m ms is lead = absurd (cc is)
+
+-- each entry of a legal history may stand where it stands
+pub IsLegal-at : (opening : List ℕ → Option Item) (count : ℕ) (es fs : List Entry) (e : Entry) → IsLegal opening count (es ++ e ∷ fs) → MayFollow opening count es e
+IsLegal-at opening count es fs e legal = record {
+  formed = (All-behind IsFormed es (e ∷ fs) legal.formed).0;
+  counts = (CountsRise-behind count es (e ∷ fs) legal.counts).0;
+  draws = (DrawsRise-behind 0 es (e ∷ fs) legal.draws).0;
+  fresh_draws = (All-behind (λ f. 0 < f.drawn → (key : List ℕ) → IsHeldBelow f.drawn (opening key)) es (e ∷ fs) legal.fresh_draws).0;
+  keys = λ key same.
+      first_leads (is_deed_of key e.deed) (item_after opening count es key) (has_risen (count_after count es) e.faults, e) _ same
+      (Lead-behind (opening key) (entries_of key (marked count es)) _ (subst (Lead (opening key)) (entries_of-parts key count es (e ∷ fs)) (legal.keys key)));
+  looks = (All-behind (λ m. LookStands m.0 m.1.deed m.1.reply) (marked count es) _ (subst (AllByRecursion (λ m. LookStands m.0 m.1.deed m.1.reply)) (marked-append count es (e ∷ fs)) legal.looks)).0;
 }

@@ -14,7 +14,7 @@ use Rattle.session_machine.specs.declared.decision.Kind.TheVariants as kinds
 use Rattle.session_machine.specs.Liveness.{ItemFits, seen, is_live, age}
 use Rattle.session_machine.specs.Machine.{Effect, on_absent, on_free, on_held, on_there, on_seen, effect, Step}
 use Rattle.session_machine.specs.Verdicts.{reply_of}
-use Rattle.session_machine.specs.History.{HasPlace, after_reply}
+use Rattle.session_machine.specs.History.{DrawFits, HasPlace, after_reply}
 
 -- a verdict's reply is none that the machine gives besides
 pub verdict_steps : (kind : Kind) (item old new : Option Item) (t drawn : ℕ) (ask : Ask) (rose : Bool)
@@ -38,6 +38,15 @@ Step-fixes old new t drawn ask rose replies.Missing h = ap (λ (x : Effect). x.1
 Step-fixes old new t drawn ask rose replies.Bad h = ap (λ (x : Effect). x.1) h
 Step-fixes old new t drawn ask rose replies.CookiesOut h = ap (λ (x : Effect). x.1) h
 Step-fixes old new t drawn ask rose replies.PlacesOut h = ap (λ (x : Effect). x.1) h
+
+-- a cookie that was drawn is in range
+pub DrawFits-lt : (ask : Ask) (drawn : ℕ) → DrawFits ask drawn → drawn < 2 ^ 63
+DrawFits-lt Acquire drawn fits = fits
+DrawFits-lt Read drawn fits = omega (arith, fits)
+DrawFits-lt (Release cookie) drawn fits = omega (arith, fits)
+DrawFits-lt (Write body minutes fresh cookie) drawn fits = omega (arith, fits)
+DrawFits-lt (Remove cookie) drawn fits = omega (arith, fits)
+DrawFits-lt Reset drawn fits = omega (arith, fits)
 
 -- what a effect answers and leaves is in range, and has a place
 abbrev pub EffectFits : Effect → Type 0

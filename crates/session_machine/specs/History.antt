@@ -124,6 +124,11 @@ abbrev pub DrawsRise : ℕ → List Entry → Type 0
 DrawsRise above [] = ⊤
 DrawsRise above (e ∷ es) = ((e.drawn ≡ 0) ⊎ (above < e.drawn)) × DrawsRise (max above e.drawn) es
 
+-- the greatest cookie drawn, `above` where there is no greater one
+abbrev pub greatest_draw : ℕ → List Entry → ℕ
+greatest_draw above [] = above
+greatest_draw above (e ∷ es) = greatest_draw (max above e.drawn) es
+
 -- a lock that is there has a smaller cookie
 abbrev pub IsHeldBelow : ℕ → Option Item → Type 0
 IsHeldBelow cookie None = ⊤

@@ -1,0 +1,4 @@
+pub mod DeedLemmas
+pub mod ItemLemmas
+pub mod JudgingLemmas
+pub mod TakingLemmas

@@ -1,0 +1,45 @@
+-- A checker, as its callers see it.
+use Rattle.std.specs.Prelude.{◌≡◌, ℕ, List, length, Option, ⊤}
+use Rattle.std.specs.BTreeMap.{is_at}
+use Rattle.std.specs.Cmp.Lexicographic.{slice_cmp}
+use Rattle.std.specs.Map.{lookup}
+use Rattle.std.specs.Ordering.{nat_cmp}
+use Rattle.session_machine.specs.declared.entry.Entry.{Entry}
+use Rattle.session_machine.specs.declared.item.Item.{Item}
+use Rattle.journal_text.specs.declared.judgement.Judgement.{Judgement}
+use Rattle.journal_text.specs.declared.judgement.Judgement.TheVariants.{Legal, Illegal}
+use Rattle.journal_text.specs.Judging.{Judges, count_before, draw_before, item_before}
+
+-- What is known behind a legal history: the count of faults, the greatest cookie drawn, and the items that there are.
+pub record Known : Type 0 where
+  pub count : ℕ
+  pub draw : ℕ
+  pub items : List (List ℕ × Item)
+
+-- The place of the first entry, how many entries were taken, the judgement of these, and what is known while they are legal.
+pub record Checked : Type 0 where
+  pub first : ℕ
+  pub taken : ℕ
+  pub verdict : Judgement
+  pub known : Known
+
+-- the item of a key, where a pair has it
+abbrev pub item_among : List (List ℕ × Item) → List ℕ → Option Item
+item_among pairs key = lookup (is_at (slice_cmp nat_cmp key)) pairs
+
+-- what is known is what stands behind the list
+pub record Knows (known : Known) (list : List Entry) : Type 0 where
+  pub count : known.count ≡ count_before list
+  pub draw : known.draw ≡ draw_before list
+  pub items : (key : List ℕ) → item_among known.items key ≡ item_before list key
+
+-- an illegal list needs no more to be known
+abbrev pub KnowsWhileLegal : Judgement → Known → List Entry → Type 0
+KnowsWhileLegal (Legal entries) known list = Knows known list
+KnowsWhileLegal (Illegal place why) known list = ⊤
+
+-- The checker has taken the entries of the list, and no others.
+pub record HasTaken (c : Checked) (list : List Entry) : Type 0 where
+  pub taken : c.taken ≡ length list
+  pub judges : Judges c.first list c.verdict
+  pub knows : KnowsWhileLegal c.verdict c.known list

@@ -1,0 +1,68 @@
+-- One deed on the items: what it leaves of them, or why it may not be done.
+use Rattle.std.specs.Prelude.{◌≡◌, ℕ, List, Option, Some, None, Bool, false, IfSome, ⊤}
+use Rattle.std.specs.Str.{bytes_eq}
+use Rattle.asp_messages.specs.declared.reply.Reply.{Reply}
+use Rattle.asp_messages.specs.declared.reply.Reply.TheVariants.{Done, KeeperFault, NoMemory}
+use Rattle.asp_messages.specs.declared.request.Request.{Request}
+use Rattle.session_machine.specs.declared.entry.Deed.{Deed}
+use Rattle.session_machine.specs.declared.entry.Deed.TheVariants.{Asked, Expired, Looked}
+use Rattle.session_machine.specs.declared.item.Item.{Item}
+use Rattle.session_machine.specs.Liveness.{ItemFits}
+use Rattle.session_machine.specs.Machine.{effect}
+use Rattle.session_machine.specs.History.{IsDead, after_reply}
+use Rattle.journal_text.specs.declared.judgement.Why.{Why}
+use Rattle.journal_text.specs.declared.judgement.Why.TheVariants.{NotDue, WrongReply}
+use Rattle.journal_text.specs.declared.asking.Left.{Left}
+use Rattle.journal_text.specs.declared.asking.Left.TheVariants as left
+use Rattle.journal_text.specs.Checking.{item_among}
+use Rattle.journal_text.specs.Judging.{IsNotDead, IsRightReply, IsWrongReply}
+
+-- each item is in range
+abbrev pub ItemsFit : List (List ℕ × Item) → Type 0
+ItemsFit pairs = (key : List ℕ) → IfSome (item_among pairs key) ItemFits
+
+-- The key has this item, and every other key has what it had.
+pub record Sets (old new : List (List ℕ × Item)) (key : List ℕ) (item : Option Item) : Type 0 where
+  pub same : item_among new key ≡ item
+  pub others : (other : List ℕ) → bytes_eq other key ≡ false → item_among new other ≡ item_among old other
+
+-- the reply of a request that changed nothing
+abbrev pub IsRefusal : Reply → Type 0
+IsRefusal NoMemory = ⊤
+IsRefusal KeeperFault = ⊤
+IsRefusal reply = ⊥
+
+-- the machine's own reply to a request where the session has this item
+abbrev pub own_reply : Option Item → ℕ → ℕ → Request → Reply
+own_reply old t drawn request = (effect old t drawn request.ask).0
+
+-- the reply is none that the request may be given
+abbrev pub IsWrongThere : Option Item → ℕ → ℕ → Bool → Request → Reply → Why → Type 0
+IsWrongThere old t drawn rose request reply why =
+    (why ≡ WrongReply (own_reply old t drawn request) reply) × IsWrongReply rose (own_reply old t drawn request) reply
+
+-- what is left is the new item, or nothing, and the item that was there is still to be removed
+abbrev pub IsLeft : Option Item → List ℕ → Item → Item → Left → Type 0
+IsLeft after key old new (left.Wrong why) = ⊥
+IsLeft after key old new left.Item = after ≡ Some new
+IsLeft after key old new (left.Nothing gone) = (after ≡ None) × (gone ≡ key) × (new ≡ old)
+
+-- what a request leaves of the item that is there, or why it may not have been answered so
+abbrev pub Leaves : Item → Item → ℕ → ℕ → Bool → Request → Reply → Left → Type 0
+Leaves old new t drawn rose request reply (left.Wrong why) = IsWrongThere (Some old) t drawn rose request reply why
+Leaves old new t drawn rose request reply left =
+    IsRightReply rose (own_reply (Some old) t drawn request) reply × IsLeft (after_reply (Some old) t drawn request.ask reply) request.key old new left
+
+-- the deed may be done, and leaves the items so
+abbrev pub IsDone : List (List ℕ × Item) → List (List ℕ × Item) → Deed → ℕ → ℕ → Bool → Reply → Type 0
+IsDone old new (Asked request) t drawn rose reply =
+    IsRightReply rose (own_reply (item_among old request.key) t drawn request) reply
+    × Sets old new request.key (after_reply (item_among old request.key) t drawn request.ask reply)
+IsDone old new (Expired key) t drawn rose reply = IsDead (item_among old key) t × Sets old new key None
+IsDone old new Looked t drawn rose reply = IsRightReply rose Done reply × (new ≡ old)
+
+-- the deed may not be done
+abbrev pub IsBarred : List (List ℕ × Item) → Deed → ℕ → ℕ → Bool → Reply → Why → Type 0
+IsBarred old (Asked request) t drawn rose reply why = IsWrongThere (item_among old request.key) t drawn rose request reply why
+IsBarred old (Expired key) t drawn rose reply why = (why ≡ NotDue) × IsNotDead (item_among old key) t
+IsBarred old Looked t drawn rose reply why = (why ≡ WrongReply Done reply) × IsWrongReply rose Done reply

@@ -1,0 +1,4 @@
+pub mod Checking
+pub mod Deeds
+pub mod Judging
+pub mod Verdict

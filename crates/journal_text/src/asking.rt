@@ -1,0 +1,198 @@
+//! One request on the items of a history.
+ghost use Rattle.std.specs.Prelude.{◌≡◌, ◌≤◌, ◌^◌, [], Some, None, IfOk, IfSome, MatchOption, OnOk, OnErr, if◌then◌else◌};
+ghost use Rattle.asp_messages.specs.Ranges.{RequestFits};
+ghost use Rattle.session_machine.specs.declared.entry.Deed.TheVariants.{Asked};
+ghost use Rattle.session_machine.specs.History.{DrawFits};
+ghost use Rattle.session_machine.specs.Liveness.{ItemFits};
+ghost use Rattle.session_machine.specs.Verdicts.{changed, body_asked};
+ghost use Rattle.journal_text.specs.Checking.{item_among};
+ghost use Rattle.journal_text.specs.Deeds.{IsBarred, IsDone, IsLeft, ItemsFit, Leaves, Sets};
+
+use crate::Why;
+use crate::replies::{is_refusal, wrong_reply};
+use asp_base::{Bytes, NoMemory};
+use asp_messages::{Ask, Reply, Request};
+use session_machine::{Change, Item, decide};
+use std::alloc::Global;
+use std::collections::BTreeMap;
+
+/// What a request leaves of the item that is there.
+#[derive(Debug, Drop)]
+pub enum Left {
+    /// It may not have been answered so.
+    Wrong(Why),
+    /// The item, as it is now.
+    Item,
+    /// Nothing: the item of this key is to be removed.
+    Nothing(Bytes),
+}
+
+/// The content that the request brings, which is not copied.
+fn body_asked(alloc: Global, ask: Ask) -> Bytes
+    ensures { result ≡ body_asked ask }
+{
+    match ask {
+        Ask::Write { body, .. } => body,
+        _ => Bytes::adopt(Vec::new(alloc)),
+    }
+}
+
+/// The content of an item that is made, which is not copied.
+fn body_made(alloc: Global, of_request: bool, ask: Ask) -> Bytes
+    ensures { result ≡ (if of_request then body_asked ask else []) }
+{
+    if of_request {
+        body_asked(alloc, ask)
+    } else {
+        Bytes::adopt(Vec::new(alloc))
+    }
+}
+
+/// Makes the change to an item that is there.
+fn change_there(alloc: Global, item: &mut Item, request: Request, change: Change) -> Left
+    ensures { IsLeft (changed change (Some item.old) request.ask) request.key item.old item.new result }
+{
+    let Request { key, ask } = request;
+    match change {
+        Change::Nothing => Left::Item,
+        Change::Cut => Left::Nothing(key),
+        Change::Store {
+            body_of_request,
+            minutes,
+            fresh,
+            holder,
+            touched,
+        } => {
+            if body_of_request {
+                item.body = body_asked(alloc, ask);
+            }
+            item.minutes = minutes;
+            item.fresh = fresh;
+            item.holder = holder;
+            item.touched = touched;
+            Left::Item
+        }
+    }
+}
+
+/// A request where the session has an item.
+fn ask_there(
+    alloc: Global,
+    item: &mut Item,
+    request: Request,
+    t: u64,
+    drawn: u64,
+    rose: bool,
+    reply: Reply,
+) -> Result<Left, NoMemory>
+    requires moment { t ≤ 2 ^ 62 }
+    requires request { RequestFits request }
+    requires drawn { DrawFits request.ask drawn }
+    requires item { ItemFits item.old }
+    ensures left { IfOk result (Leaves item.old item.new t drawn rose request reply) }
+    ensures fits { ItemFits item.new }
+    ensures err { OnErr result (item.new ≡ item.old) }
+{
+    let verdict = decide(Some(item), t, &request, drawn);
+    let refused = is_refusal(&reply);
+    if let Some(why) = wrong_reply(alloc, reply, verdict.kind, Some(item), rose)? {
+        return Ok(Left::Wrong(why));
+    }
+    if refused {
+        return Ok(Left::Item);
+    }
+    Ok(change_there(alloc, item, request, verdict.change))
+}
+
+/// Makes the change where the session has no item.
+fn change_absent(
+    alloc: Global,
+    items: &mut BTreeMap<Bytes, Item>,
+    request: Request,
+    change: Change,
+) -> Result<(), NoMemory>
+    requires { item_among items.old.entries request.key ≡ None }
+    ensures ok { OnOk result (Sets items.old.entries items.new.entries request.key (changed change None request.ask)) }
+    ensures err { OnErr result (items.new.entries ≡ items.old.entries) }
+{
+    if let Change::Store {
+        body_of_request,
+        minutes,
+        fresh,
+        holder,
+        touched,
+    } = change
+    {
+        let Request { key, ask } = request;
+        let item = Item {
+            body: body_made(alloc, body_of_request, ask),
+            minutes,
+            fresh,
+            holder,
+            touched,
+        };
+        items.insert(key, item)?;
+    }
+    Ok(())
+}
+
+/// A request where the session has no item.
+fn ask_absent(
+    alloc: Global,
+    items: &mut BTreeMap<Bytes, Item>,
+    request: Request,
+    t: u64,
+    drawn: u64,
+    rose: bool,
+    reply: Reply,
+) -> Result<Option<Why>, NoMemory>
+    requires moment { t ≤ 2 ^ 62 }
+    requires request { RequestFits request }
+    requires drawn { DrawFits request.ask drawn }
+    requires absent { item_among items.old.entries request.key ≡ None }
+    requires fits { ItemsFit items.old.entries }
+    ensures asked { IfOk result (λ why. MatchOption why (IsDone items.old.entries items.new.entries (Asked request) t drawn rose reply)
+        (IsBarred items.old.entries (Asked request) t drawn rose reply)) }
+    ensures fits { ItemsFit items.new.entries }
+    ensures err { OnErr result (items.new.entries ≡ items.old.entries) }
+{
+    let verdict = decide(None, t, &request, drawn);
+    let refused = is_refusal(&reply);
+    let why = wrong_reply(alloc, reply, verdict.kind, None, rose)?;
+    if why.is_none() && !refused {
+        change_absent(alloc, items, request, verdict.change)?;
+    }
+    Ok(why)
+}
+
+/// A request, by one look-up of its item.
+pub fn ask(
+    alloc: Global,
+    items: &mut BTreeMap<Bytes, Item>,
+    request: Request,
+    t: u64,
+    drawn: u64,
+    rose: bool,
+    reply: Reply,
+) -> Result<Option<Why>, NoMemory>
+    requires moment { t ≤ 2 ^ 62 }
+    requires request { RequestFits request }
+    requires drawn { DrawFits request.ask drawn }
+    requires fits { ItemsFit items.old.entries }
+    ensures asked { IfOk result (λ why. MatchOption why (IsDone items.old.entries items.new.entries (Asked request) t drawn rose reply)
+        (IsBarred items.old.entries (Asked request) t drawn rose reply)) }
+    ensures fits { ItemsFit items.new.entries }
+    ensures err { OnErr result (items.new.entries ≡ items.old.entries) }
+{
+    let Some(item) = items.get_mut(&request.key) else {
+        return ask_absent(alloc, items, request, t, drawn, rose, reply);
+    };
+    match ask_there(alloc, item, request, t, drawn, rose, reply)? {
+        Left::Wrong(why) => Ok(Some(why)),
+        Left::Item => Ok(None),
+        Left::Nothing(key) => {
+            items.remove(&key);
+            Ok(None)
+        }
+    }
+}

@@ -1,0 +1,84 @@
+//! A checker of histories.
+ghost use Rattle.std.specs.Prelude.{◌≡◌, ◌+◌, ◌<◌, ◌-◌, ◌^◌, ◌++◌, ◌∷◌, [], List, OnOk, OnErr};
+ghost use Rattle.session_machine.specs.declared.entry.Entry.{Entry};
+ghost use Rattle.session_machine.specs.History.{IsFormed};
+ghost use Rattle.journal_text.specs.Checking.{HasTaken};
+ghost use Rattle.journal_text.specs.Judging.{Judges};
+
+use crate::Judgement;
+use crate::standing::Standing;
+use asp_base::NoMemory;
+use session_machine::Entry;
+use std::alloc::Global;
+use std::marker::Model;
+
+/// It takes the entries of a list in turn, and judges whether they are a legal history from no items
+/// and no fault. It keeps the items that there are, and no entry.
+#[derive(Debug, Drop)]
+pub struct Checker {
+    alloc: Global,
+    first_place: u64,
+    taken: u64,
+    verdict: Judgement,
+    standing: Standing,
+}
+
+impl Model for Checker {
+    ghost use Rattle.std.specs.Prelude.{◌<◌, ◌-◌, ◌^◌};
+    ghost use Rattle.journal_text.specs.Checking.{Checked};
+
+    ghost Value = { Checked };
+
+    ghost view = { λ c. record { first = c.first_place; taken = c.taken; verdict = c.verdict; known = c.standing } };
+
+    ghost invariant = { λ c. c.first_place < 2 ^ 63 - 1 };
+}
+
+impl Checker {
+    /// A checker that has taken no entry. The first that it takes has the place `first_place`, below
+    /// 2^63 - 1. It takes no memory.
+    pub fn new(alloc: Global, first_place: u64) -> Checker
+        requires { first_place < 2 ^ 63 - 1 }
+        ensures first { result.first ≡ first_place }
+        ensures count { result.taken ≡ 0 }
+        ensures taken { HasTaken result [] }
+    {
+        Checker {
+            alloc,
+            first_place,
+            taken: 0,
+            verdict: Judgement::Legal { entries: 0 },
+            standing: Standing::new(alloc),
+        }
+    }
+
+    /// Takes the next entry, of at most 2^63 - 1. After `NoMemory` nothing has changed.
+    pub fn take(&mut self, entry: Entry) -> Result<(), NoMemory>
+        requires few { self.old.taken < 2 ^ 63 - 1 }
+        requires entry { IsFormed entry }
+
+        // The checker stands for the list that it took.
+        ensures taken { (list : List Entry) → HasTaken self.old list → OnOk result (HasTaken self.new (list ++ entry ∷ [])) }
+
+        ensures count { OnOk result (self.new.taken ≡ self.old.taken + 1) }
+        ensures first { self.new.first ≡ self.old.first }
+        ensures err { OnErr result (self.new ≡ self.old) }
+    {
+        if let Judgement::Illegal { .. } = self.verdict {
+            self.taken += 1;
+            return Ok(());
+        }
+        let place = self.first_place + self.taken;
+        self.verdict = self.standing.judge(self.alloc, entry, place, self.taken)?;
+        self.taken += 1;
+        Ok(())
+    }
+
+    /// The judgement of the entries taken. It takes no memory.
+    pub fn verdict(&self) -> &Judgement
+        ensures verdict { result.now ≡ self.now.verdict }
+        ensures judges { (list : List Entry) → HasTaken self.now list → Judges self.now.first list result.now }
+    {
+        &self.verdict
+    }
+}

@@ -1,0 +1,154 @@
+//! What is known behind a legal history, and whether an entry may stand next.
+ghost use Rattle.std.specs.Prelude.{◌≡◌, ◌⊎◌, ℕ, ◌+◌, ◌-◌, ◌<◌, ◌≤◌, ◌^◌, ◌++◌, ◌∷◌, [], List, length, IfOk, IsFalse, IsTrue, MatchOption, OnErr, false};
+ghost use Rattle.asp_messages.specs.declared.reply.Reply.TheVariants.{Done};
+ghost use Rattle.session_machine.specs.declared.entry.Deed.TheVariants.{Expired};
+ghost use Rattle.session_machine.specs.declared.entry.Entry.{Entry};
+ghost use Rattle.session_machine.specs.History.{DeedFits, IsFormed, IsLegal, nothing};
+ghost use Rattle.journal_text.specs.Checking.{Knows, KnowsWhileLegal};
+ghost use Rattle.journal_text.specs.Deeds.{IsBarred, IsDone, ItemsFit};
+ghost use Rattle.journal_text.specs.Judging.{IsReason, Judges};
+
+use crate::asking::ask;
+use crate::replies::{has_risen, wrong_reply};
+use crate::{Judgement, Why};
+use asp_base::{Bytes, NoMemory};
+use asp_messages::Reply;
+use session_machine::{Deed, Entry, Item, Kind, live};
+use std::alloc::Global;
+use std::collections::BTreeMap;
+use std::marker::Model;
+
+/// What is known behind a legal history: the items that there are, the count of faults, and the
+/// greatest cookie drawn.
+#[derive(Debug, Drop)]
+pub struct Standing {
+    items: BTreeMap<Bytes, Item>,
+    faults: u64,
+    above: u64,
+}
+
+impl Model for Standing {
+    ghost use Rattle.journal_text.specs.Checking.{Known};
+    ghost use Rattle.journal_text.specs.Deeds.{ItemsFit};
+
+    ghost Value = { Known };
+
+    ghost view = { λ s. record { count = s.faults; draw = s.above; items = s.items.entries } };
+
+    ghost invariant = { λ s. ItemsFit s.items.entries };
+}
+
+/// An expiry: the item that had expired is removed.
+fn expire(items: &mut BTreeMap<Bytes, Item>, key: &Bytes, t: u64) -> Option<Why>
+    requires fits { ItemsFit items.old.entries }
+    ensures expired { MatchOption result (IsDone items.old.entries items.new.entries (Expired key.now) t 0 false Done) (IsBarred items.old.entries (Expired key.now) t 0 false Done) }
+    ensures fits { ItemsFit items.new.entries }
+{
+    match items.remove(key) {
+        Some(item) if !live(&item, t) => None,
+        _ => Some(Why::NotDue),
+    }
+}
+
+/// The deed of the entry that comes next. `rose` is whether the count of faults rose with it.
+fn act(
+    alloc: Global,
+    items: &mut BTreeMap<Bytes, Item>,
+    deed: Deed,
+    t: u64,
+    drawn: u64,
+    rose: bool,
+    reply: Reply,
+) -> Result<Option<Why>, NoMemory>
+    requires moment { t ≤ 2 ^ 62 }
+    requires deed { DeedFits deed drawn reply }
+    requires fits { ItemsFit items.old.entries }
+    ensures acted { IfOk result (λ why. MatchOption why (IsDone items.old.entries items.new.entries deed t drawn rose reply) (IsBarred items.old.entries deed t drawn rose reply)) }
+    ensures fits { ItemsFit items.new.entries }
+    ensures err { OnErr result (items.new.entries ≡ items.old.entries) }
+{
+    match deed {
+        Deed::Asked(request) => ask(alloc, items, request, t, drawn, rose, reply),
+        Deed::Expired(key) => Ok(expire(items, &key, t)),
+        Deed::Looked => wrong_reply(alloc, reply, Kind::Done, None, rose),
+    }
+}
+
+/// Whether no cookie was drawn, or a greater one than `above`.
+fn raises(above: u64, drawn: u64) -> bool
+    ensures raises { IsTrue result → (drawn ≡ 0) ⊎ (above < drawn) }
+    ensures back { IsFalse result → (0 < drawn) × (drawn ≤ above) }
+{
+    drawn == 0 || drawn > above
+}
+
+impl Standing {
+    /// No item, no fault and no cookie. It takes no memory.
+    pub fn new(alloc: Global) -> Standing
+        ensures { Knows result [] }
+    {
+        Standing {
+            items: BTreeMap::new(alloc),
+            faults: 0,
+            above: 0,
+        }
+    }
+
+    /// Why the entry may not stand next, or `None` where it may, which is then known too.
+    fn admit(&mut self, alloc: Global, entry: Entry) -> Result<Option<Why>, NoMemory>
+        requires { IsFormed entry }
+        ensures admitted { (before : List Entry) → IsLegal nothing 0 before → Knows self.old before
+            → IfOk result (λ why. MatchOption why (IsLegal nothing 0 (before ++ entry ∷ []) × Knows self.new (before ++ entry ∷ [])) (IsReason before entry)) }
+        ensures err { OnErr result (self.new ≡ self.old) }
+    {
+        let Entry {
+            moment,
+            deed,
+            drawn,
+            reply,
+            faults,
+            ..
+        } = entry;
+        if faults < self.faults {
+            return Ok(Some(Why::FaultsFell {
+                before: self.faults,
+                found: faults,
+            }));
+        }
+        if !raises(self.above, drawn) {
+            return Ok(Some(Why::CookieBack {
+                above: self.above,
+                found: drawn,
+            }));
+        }
+        let rose = has_risen(self.faults, faults);
+        match act(alloc, &mut self.items, deed, moment, drawn, rose, reply)? {
+            Some(why) => Ok(Some(why)),
+            None => {
+                self.faults = faults;
+                self.above = self.above.max(drawn);
+                Ok(None)
+            }
+        }
+    }
+
+    /// The judgement of `taken` legal entries and this one, which has the place `place`.
+    pub fn judge(
+        &mut self,
+        alloc: Global,
+        entry: Entry,
+        place: u64,
+        taken: u64,
+    ) -> Result<Judgement, NoMemory>
+        requires entry { IsFormed entry }
+        requires few { taken < 2 ^ 63 - 1 }
+        ensures judged { (first : ℕ) (before : List Entry) → place ≡ first + length before → taken ≡ length before → IsLegal nothing 0 before → Knows self.old before
+            → IfOk result (λ judgement. Judges first (before ++ entry ∷ []) judgement × KnowsWhileLegal judgement self.new (before ++ entry ∷ [])) }
+        ensures err { OnErr result (self.new ≡ self.old) }
+    {
+        match self.admit(alloc, entry)? {
+            Some(why) => Ok(Judgement::Illegal { place, why }),
+            None => Ok(Judgement::Legal { entries: taken + 1 }),
+        }
+    }
+}
