@@ -1,0 +1,4 @@
+pub mod JournalText
+pub mod Next
+pub mod Reading
+pub mod Spelled
