@@ -1,0 +1,7 @@
+pub mod PhraseLemmas
+pub mod CutLemmas
+pub mod OneSpelling
+pub mod ContentLemmas
+pub mod CutLineLemmas
+pub mod EntryLemmas
+pub mod JournalLemmas

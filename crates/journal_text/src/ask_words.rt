@@ -1,10 +1,10 @@
 //! The spelling of an ask, read.
-ghost use Rattle.std.specs.Prelude.{◌++◌, codes, IfOk};
+ghost use Rattle.std.specs.Prelude.{◌≢◌, ◌++◌, codes, IfOk, IfSome, IfNone};
 ghost use Rattle.plain_words.specs.Words.{Reads};
 ghost use Rattle.journal_text.specs.Spelled.{IsAsk};
 
 use crate::content_words::{named, read_content};
-use crate::number_words::strip;
+use crate::number_words::{is, strip};
 use asp_base::NoMemory;
 use asp_messages::{Ask, MOST_COOKIE};
 use plain_words::read_plain_number;
@@ -40,6 +40,21 @@ fn read_write(alloc: Global, content: &[u8]) -> Result<Option<Ask>, NoMemory>
     }
 }
 
+fn one_word_ask(text: &[u8]) -> Option<Ask>
+    ensures some { IfSome result (IsAsk text.now) }
+    ensures none { IfNone result ((text.now ≢ codes "read") × (text.now ≢ codes "acquire") × (text.now ≢ codes "reset")) }
+{
+    if is(text, b"read") {
+        Some(Ask::Read)
+    } else if is(text, b"acquire") {
+        Some(Ask::Acquire)
+    } else if is(text, b"reset") {
+        Some(Ask::Reset)
+    } else {
+        None
+    }
+}
+
 /// The ask in range that the text spells; `None` exactly where it spells none. The only error is want
 /// of memory for its content.
 pub fn read_ask(alloc: Global, text: &[u8]) -> Result<Option<Ask>, NoMemory>
@@ -54,10 +69,5 @@ pub fn read_ask(alloc: Global, text: &[u8]) -> Result<Option<Ask>, NoMemory>
     if let Some(cookie) = strip(text, b"remove ") {
         return Ok(read_remove(cookie));
     }
-    match text {
-        b"read" => Ok(Some(Ask::Read)),
-        b"acquire" => Ok(Some(Ask::Acquire)),
-        b"reset" => Ok(Some(Ask::Reset)),
-        _ => Ok(None),
-    }
+    Ok(one_word_ask(text))
 }

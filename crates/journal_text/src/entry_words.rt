@@ -4,7 +4,7 @@ ghost use Rattle.plain_words.specs.Words.{Reads};
 ghost use Rattle.journal_text.specs.Spelled.{IsDeed, IsEntry, IsCut, AnswerFits};
 
 use crate::ask_words::read_ask;
-use crate::number_words::{cut_number, strip};
+use crate::number_words::{cut_number, is, strip, strip_end};
 use crate::reply_words::read_reply;
 use asp_base::{LAST_MOMENT, NoMemory};
 use asp_messages::{Ask, MOST_COOKIE, MOST_KEY, Reply, Request};
@@ -31,14 +31,14 @@ struct Cut<'a> {
 fn cut_line(line: &[u8]) -> Option<Cut<'_>>
     ensures { MatchOption result ((caller moment faults drawn : ℕ) (key deed reply : List ℕ) → ¬ IsCut line.now caller moment faults drawn key deed reply) (λ cut. IsCut line.now cut.caller cut.moment cut.faults cut.drawn cut.key.now cut.deed.now cut.reply.now) }
 {
-    let (caller, rest) = cut_number(line, MOST_CALLER)?;
-    let (moment, rest) = cut_number(rest, LAST_MOMENT)?;
-    let (faults, rest) = cut_number(rest, u64::MAX)?;
-    let (drawn, rest) = cut_number(rest, MOST_COOKIE)?;
-    let (key, rest) = split_word(rest)?;
-    let (deed, reply) = split_at_byte(rest, b':')?;
-    let deed = deed.strip_suffix(b" ")?;
-    let reply = strip(reply, b" ")?;
+    let (caller, from_moment) = cut_number(line, MOST_CALLER)?;
+    let (moment, from_faults) = cut_number(from_moment, LAST_MOMENT)?;
+    let (faults, from_drawn) = cut_number(from_faults, u64::MAX)?;
+    let (drawn, from_key) = cut_number(from_drawn, MOST_COOKIE)?;
+    let (key, from_deed) = split_word(from_key)?;
+    let (before, behind) = split_at_byte(from_deed, b':')?;
+    let deed = strip_end(before, b" ")?;
+    let reply = strip(behind, b" ")?;
     Some(Cut {
         caller,
         moment,
@@ -55,8 +55,8 @@ fn cut_line(line: &[u8]) -> Option<Cut<'_>>
 fn read_deed(alloc: Global, key: &[u8], text: &[u8]) -> Result<Option<Deed>, NoMemory>
     ensures { IfOk result (Reads (IsDeed key.now text.now)) }
 {
-    if key == b"-".as_slice() {
-        return Ok(if text == b"looked".as_slice() {
+    if is(key, b"-") {
+        return Ok(if is(text, b"looked") {
             Some(Deed::Looked)
         } else {
             None
@@ -68,7 +68,7 @@ fn read_deed(alloc: Global, key: &[u8], text: &[u8]) -> Result<Option<Deed>, NoM
     if key.as_slice().is_empty() {
         return Ok(None);
     }
-    if text == b"expired".as_slice() {
+    if is(text, b"expired") {
         return Ok(Some(Deed::Expired(key)));
     }
     match read_ask(alloc, text)? {

@@ -1,5 +1,5 @@
 //! The first words of a text.
-ghost use Rattle.std.specs.Prelude.{◌≡◌, ◌≢◌, ℕ, ◌≤◌, List, ◌∷◌, ◌++◌, decimal, MatchOption};
+ghost use Rattle.std.specs.Prelude.{◌≡◌, ◌≢◌, ◌↔◌, ℕ, ◌≤◌, List, ◌∷◌, ◌++◌, decimal, MatchOption, IsTrue};
 
 use plain_words::{read_plain_number, split_word};
 
@@ -18,4 +18,18 @@ pub fn strip<'a>(text: &'a [u8], prefix: &[u8]) -> Option<&'a [u8]>
     ensures { MatchOption result ((rest : List ℕ) → text.now ≢ prefix.now ++ rest) (λ rest. text.now ≡ prefix.now ++ rest.now) }
 {
     text.strip_prefix(prefix)
+}
+
+/// The text before the suffix; `None` exactly where it does not end with it.
+pub fn strip_end<'a>(text: &'a [u8], suffix: &[u8]) -> Option<&'a [u8]>
+    ensures { MatchOption result ((front : List ℕ) → text.now ≢ front ++ suffix.now) (λ front. text.now ≡ front.now ++ suffix.now) }
+{
+    text.strip_suffix(suffix)
+}
+
+/// Whether the text is the word.
+pub fn is(text: &[u8], word: &[u8]) -> bool
+    ensures { IsTrue result ↔ (text.now ≡ word.now) }
+{
+    text == word
 }

@@ -1,5 +1,5 @@
 //! A reader of journals.
-ghost use Rattle.std.specs.Prelude.{◌≡◌, ◌⊎◌, ◌+◌, ◌-◌, ◌<◌, ◌≤◌, ◌^◌, ◌++◌, ◌↔◌, ℕ, List, [], length, take, drop, Option, Some, None, IsTrue, IsFalse, OnOk, OnErr, IfSome, IfNone, MatchOption};
+ghost use Rattle.std.specs.Prelude.{◌≡◌, ◌⊎◌, ◌+◌, ◌-◌, ◌<◌, ◌≤◌, ◌^◌, ◌++◌, ◌↔◌, ℕ, List, [], true, false, length, take, drop, Option, Some, None, IsTrue, IsFalse, OnOk, OnErr, IfSome, IfNone, MatchOption};
 ghost use Rattle.plain_words.specs.Words.{HasNo, SplitsAt};
 ghost use Rattle.journal_text.specs.JournalText.{PlaceFits, EntryFits, head_words, entry_words, most_line};
 ghost use Rattle.journal_text.specs.Reading.{IsNoLine, Taken, IsJournalOf, StopsAt, Reading, most_piece, most_held, new_reader, fed, waiting, broken, TakesLine, HasRead};
@@ -89,7 +89,9 @@ impl JournalReader {
         ensures bound { length self.new.held ≤ most_held }
         ensures reads { OnOk result ((text : List ℕ) (taken : Taken) → HasRead text taken self.old → HasRead (text ++ piece.now) taken self.new) }
     {
-        if !self.is_broken {
+        if self.is_broken {
+            self.lines.clear();
+        } else {
             self.lines.feed(piece)?;
         }
         self.may_feed = false;

@@ -1,10 +1,10 @@
 //! The spelling of a reply, read.
-ghost use Rattle.std.specs.Prelude.{◌++◌, codes, IfOk};
+ghost use Rattle.std.specs.Prelude.{◌≢◌, ◌++◌, codes, IfOk, IfSome, IfNone};
 ghost use Rattle.plain_words.specs.Words.{Reads};
 ghost use Rattle.journal_text.specs.Spelled.{IsReply};
 
 use crate::content_words::read_content;
-use crate::number_words::{cut_number, strip};
+use crate::number_words::{cut_number, is, strip};
 use asp_base::NoMemory;
 use asp_messages::{MOST_AGE, MOST_COOKIE, Reply};
 use plain_words::read_plain_number;
@@ -32,6 +32,25 @@ fn read_found(alloc: Global, content: &[u8]) -> Result<Option<Reply>, NoMemory>
     }
 }
 
+fn one_word_reply(text: &[u8]) -> Option<Reply>
+    ensures some { IfSome result (IsReply text.now) }
+    ensures none { IfNone result ((text.now ≢ codes "done") × (text.now ≢ codes "missing") × (text.now ≢ codes "keeper-fault") × (text.now ≢ codes "no-memory") × (text.now ≢ codes "cookies-out")) }
+{
+    if is(text, b"done") {
+        Some(Reply::Done)
+    } else if is(text, b"missing") {
+        Some(Reply::Missing)
+    } else if is(text, b"keeper-fault") {
+        Some(Reply::KeeperFault)
+    } else if is(text, b"no-memory") {
+        Some(Reply::NoMemory)
+    } else if is(text, b"cookies-out") {
+        Some(Reply::CookiesOut)
+    } else {
+        None
+    }
+}
+
 /// The reply in range that the text spells, but for `bad` and `places-out`, which are in no line;
 /// `None` exactly where it spells none. The only error is want of memory for its content.
 pub fn read_reply(alloc: Global, text: &[u8]) -> Result<Option<Reply>, NoMemory>
@@ -43,12 +62,5 @@ pub fn read_reply(alloc: Global, text: &[u8]) -> Result<Option<Reply>, NoMemory>
     if let Some(words) = strip(text, b"locked ") {
         return Ok(read_locked(words));
     }
-    match text {
-        b"done" => Ok(Some(Reply::Done)),
-        b"missing" => Ok(Some(Reply::Missing)),
-        b"keeper-fault" => Ok(Some(Reply::KeeperFault)),
-        b"no-memory" => Ok(Some(Reply::NoMemory)),
-        b"cookies-out" => Ok(Some(Reply::CookiesOut)),
-        _ => Ok(None),
-    }
+    Ok(one_word_reply(text))
 }

@@ -2,7 +2,7 @@
 ghost use Rattle.std.specs.Prelude.{◌≡◌, ◌++◌, take, OnOk, OnErr, is_ok, decimal, if◌then◌else◌};
 ghost use Rattle.hex.specs.Hex.{encode_lower};
 ghost use Rattle.asp_messages.specs.Appending.{Extends};
-ghost use Rattle.asp_messages.specs.PlainSpelling.{bytes_word};
+ghost use Rattle.asp_messages.specs.PlainSpelling.{◌then◌, bytes_word};
 ghost use Rattle.session_machine.specs.History.{IsFormed};
 ghost use Rattle.plain_words.specs.Words.{AreBytes};
 ghost use Rattle.journal_text.specs.JournalText.{PlaceFits, EntryFits, DeedHasBytes, AskHasBytes, ReplyHasBytes, head_line, entry_line, number_words, key_word, deed_words};
@@ -31,6 +31,14 @@ fn push_number(out: &mut Vec<u8>, n: u64) -> Result<(), NoMemory>
 {
     let mut buffer = Buffer::new();
     push(out, buffer.format(n).as_bytes())
+}
+
+fn then_number(out: &mut Vec<u8>, n: u64) -> Result<(), NoMemory>
+    ensures ok { OnOk result (out.new.items ≡ out.old.items then decimal n) }
+    ensures err { OnErr result (Extends out.old.items out.new.items) }
+{
+    push(out, b" ")?;
+    push_number(out, n)
 }
 
 /// After a failure, takes off what was appended since the buffer had this length.
@@ -87,28 +95,34 @@ fn push_deed(out: &mut Vec<u8>, deed: &Deed) -> Result<(), NoMemory>
     }
 }
 
+/// Appends the key of the deed and what was done, each behind a space.
+fn then_deed(out: &mut Vec<u8>, deed: &Deed) -> Result<(), NoMemory>
+    ensures ok { OnOk result (out.new.items ≡ out.old.items then key_word deed.now then deed_words deed.now) }
+    ensures err { OnErr result (Extends out.old.items out.new.items) }
+{
+    push(out, b" ")?;
+    push_key(out, deed)?;
+    push(out, b" ")?;
+    push_deed(out, deed)
+}
+
 fn push_numbers(out: &mut Vec<u8>, entry: &Entry) -> Result<(), NoMemory>
     ensures ok { OnOk result (out.new.items ≡ out.old.items ++ number_words entry.now) }
     ensures err { OnErr result (Extends out.old.items out.new.items) }
 {
     push_number(out, entry.caller)?;
-    push(out, b" ")?;
-    push_number(out, entry.moment)?;
-    push(out, b" ")?;
-    push_number(out, entry.faults)?;
-    push(out, b" ")?;
-    push_number(out, entry.drawn)
+    then_number(out, entry.moment)?;
+    then_number(out, entry.faults)?;
+    then_number(out, entry.drawn)
 }
 
+#[tactic(auto, unfolding(crate::specs::JournalText::entry_words))]
 fn push_entry(out: &mut Vec<u8>, entry: &Entry) -> Result<(), NoMemory>
     ensures ok { OnOk result (out.new.items ≡ out.old.items ++ entry_line entry.now) }
     ensures err { OnErr result (Extends out.old.items out.new.items) }
 {
     push_numbers(out, entry)?;
-    push(out, b" ")?;
-    push_key(out, &entry.deed)?;
-    push(out, b" ")?;
-    push_deed(out, &entry.deed)?;
+    then_deed(out, &entry.deed)?;
     push(out, b" : ")?;
     spell_reply(out, &entry.reply)?;
     push(out, b"\n")
@@ -124,10 +138,10 @@ fn push_head(out: &mut Vec<u8>, place: u64) -> Result<(), NoMemory>
 }
 
 /// Bytes are bytes.
-fn are_bytes(bytes: &Bytes)
+fn are_bytes(bytes: &[u8])
     ensures { AreBytes bytes.now }
 {
-    let _bytes = bytes.as_slice();
+    let _bytes = bytes;
 }
 
 fn deed_has_bytes(deed: &Deed)
@@ -135,10 +149,10 @@ fn deed_has_bytes(deed: &Deed)
 {
     match deed {
         Deed::Asked(request) => {
-            are_bytes(&request.key);
+            are_bytes(request.key.as_slice());
             ask_has_bytes(&request.ask);
         }
-        Deed::Expired(key) => are_bytes(key),
+        Deed::Expired(key) => are_bytes(key.as_slice()),
         Deed::Looked => {}
     }
 }
@@ -147,7 +161,7 @@ fn ask_has_bytes(ask: &Ask)
     ensures { AskHasBytes ask.now }
 {
     if let Ask::Write { body, .. } = ask {
-        are_bytes(body);
+        are_bytes(body.as_slice());
     }
 }
 
@@ -155,7 +169,7 @@ fn reply_has_bytes(reply: &Reply)
     ensures { ReplyHasBytes reply.now }
 {
     if let Reply::Found { body, .. } = reply {
-        are_bytes(body);
+        are_bytes(body.as_slice());
     }
 }
 
