@@ -5,3 +5,5 @@ pub mod ContentLemmas
 pub mod CutLineLemmas
 pub mod EntryLemmas
 pub mod JournalLemmas
+pub mod HeldLemmas
+pub mod AppendedLemmas

@@ -1,6 +1,6 @@
 //! The bytes that a reader holds: what was fed and is not taken, and how far of it a line feed was
 //! sought.
-ghost use Rattle.std.specs.Prelude.{◌≡◌, ◌<◌, ◌+◌, ◌++◌, [], length, take, drop, OnOk, OnErr, MatchOption};
+ghost use Rattle.std.specs.Prelude.{◌≡◌, ◌<◌, ◌≤◌, ◌+◌, ◌-◌, ◌++◌, [], length, take, drop, OnOk, OnErr, MatchOption};
 ghost use Rattle.plain_words.specs.Words.{HasNo, SplitsAt};
 
 use asp_base::NoMemory;
@@ -27,6 +27,22 @@ impl Model for HeldLines {
     ghost view = { λ h. drop h.start h.bytes.items };
 
     ghost invariant = { λ h. (h.start ≤ h.searched) × (h.searched ≤ length h.bytes.items) × HasNo 10 (slice_range h.bytes.items h.start h.searched) };
+}
+
+/// Drops the bytes before `start`, where there are any. It takes no memory, and costs the bytes from
+/// `start` on.
+fn compact(bytes: &mut Vec<u8>, start: &mut usize, searched: &mut usize)
+    requires within { start.old ≤ length bytes.old.items }
+    requires sought { start.old ≤ searched.old }
+    ensures start { start.new ≡ 0 }
+    ensures searched { searched.new ≡ searched.old - start.old }
+    ensures bytes { bytes.new.items ≡ drop start.old bytes.old.items }
+{
+    if *start > 0 {
+        bytes.drain(..*start);
+        *searched -= *start;
+        *start = 0;
+    }
 }
 
 impl HeldLines {
@@ -64,11 +80,7 @@ impl HeldLines {
         ensures ok { OnOk result (self.new ≡ self.old ++ piece.now) }
         ensures err { OnErr result (self.new ≡ self.old) }
     {
-        if self.start > 0 {
-            self.bytes.drain(..self.start);
-            self.searched -= self.start;
-            self.start = 0;
-        }
+        compact(&mut self.bytes, &mut self.start, &mut self.searched);
         self.bytes.extend_from_slice(piece)?;
         Ok(())
     }
@@ -96,7 +108,8 @@ impl HeldLines {
         requires { len < length self.old }
         ensures { self.new ≡ drop (len + 1) self.old }
     {
-        self.start += len + 1;
-        self.searched = self.start;
+        let end = self.start + len + 1;
+        self.start = end;
+        self.searched = end;
     }
 }
