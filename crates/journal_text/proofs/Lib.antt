@@ -7,3 +7,4 @@ pub mod EntryLemmas
 pub mod JournalLemmas
 pub mod HeldLemmas
 pub mod AppendedLemmas
+pub mod ReadingLemmas

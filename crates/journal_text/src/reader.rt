@@ -89,6 +89,17 @@ impl JournalReader {
         ensures bound { length self.new.held ≤ most_held }
         ensures reads { OnOk result ((text : List ℕ) (taken : Taken) → HasRead text taken self.old → HasRead (text ++ piece.now) taken self.new) }
     {
+        self.add(piece)
+    }
+
+    fn add(&mut self, piece: &[u8]) -> Result<(), NoMemory>
+        requires piece { length piece.now ≤ most_piece }
+        requires may_feed { IsTrue self.old.may_feed }
+        requires text_fits { self.old.offset + length self.old.held + length piece.now < 2 ^ 63 - 1 }
+        ensures ok { OnOk result (self.new ≡ fed self.old piece.now) }
+        ensures err { OnErr result (self.new ≡ self.old) }
+        ensures bound { length self.new.held ≤ most_held }
+    {
         if self.is_broken {
             self.lines.clear();
         } else {
