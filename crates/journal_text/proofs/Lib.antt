@@ -1,4 +1,14 @@
+pub mod AppendedLemmas
+pub mod ContentLemmas
+pub mod CutLemmas
+pub mod CutLineLemmas
 pub mod DeedLemmas
+pub mod EntryLemmas
+pub mod HeldLemmas
 pub mod ItemLemmas
+pub mod JournalLemmas
 pub mod JudgingLemmas
+pub mod OneSpelling
+pub mod PhraseLemmas
+pub mod ReadingLemmas
 pub mod TakingLemmas

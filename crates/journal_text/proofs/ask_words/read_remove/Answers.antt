@@ -1,0 +1,8 @@
+use Rattle.journal_text.proofs.ContentLemmas.{is_remove, no_remove}
+use Rattle.journal_text.proofs.ask_words.read_remove.Goals as goal
+
+pub returns-in_err-cookie : goal.returns-in_err-cookie
+returns-in_err-cookie c = rw c.from_residual.ensures (no_remove c.args.cookie.now c.in_err-cookie.ensures)
+
+pub returns : goal.returns
+returns c = rw c.named.ensures (is_remove c.args.cookie.now c.in_ok-cookie.cookie c.in_ok-cookie.ensures)

@@ -1,0 +1,205 @@
+//! A reader of journals.
+ghost use Rattle.std.specs.Prelude.{◌≡◌, ◌⊎◌, ◌+◌, ◌-◌, ◌<◌, ◌≤◌, ◌^◌, ◌++◌, ◌↔◌, ℕ, List, [], true, false, length, take, drop, Option, Some, None, IsTrue, IsFalse, OnOk, OnErr, IfSome, IfNone, MatchOption};
+ghost use Rattle.plain_words.specs.Words.{HasNo, SplitsAt};
+ghost use Rattle.journal_text.specs.JournalText.{PlaceFits, EntryFits, head_words, entry_words, most_line};
+ghost use Rattle.journal_text.specs.Reading.{IsNoLine, Taken, IsJournalOf, StopsAt, Reading, most_piece, most_held, new_reader, fed, waiting, broken, TakesLine, HasRead};
+ghost use Rattle.journal_text.specs.Next.{IfHead, IfEntry, IfNotAJournal, taken_with};
+
+use crate::MOST_LINE;
+use crate::entry_words::read_entry;
+use crate::head_words::read_head;
+use crate::held_lines::HeldLines;
+use asp_base::NoMemory;
+use session_machine::Entry;
+use std::alloc::Global;
+use std::marker::Model;
+
+/// The most bytes of a piece that is fed.
+pub const MOST_PIECE: usize = 16_384;
+
+/// What a reader answers when it is asked for the next line.
+#[derive(Debug, Drop)]
+pub enum JournalNext {
+    /// The first line, which was taken.
+    Head {
+        /// The place of the first entry, below 2^63 - 1.
+        place: u64,
+    },
+    /// The entry of the next line, which was taken.
+    Entry(Entry),
+    /// No line is whole; feed more bytes.
+    More,
+    /// The next line is none of its place; the reader is broken for good.
+    NotAJournal {
+        /// The offset of that line's first byte in the text.
+        offset: u64,
+    },
+    /// There was no memory for the entry; nothing has changed.
+    NoMemory,
+}
+
+/// A reader of a journal from the pieces of its text. It never holds more than 16,816,384 bytes.
+#[derive(Debug, Drop)]
+pub struct JournalReader {
+    alloc: Global,
+    lines: HeldLines,
+    offset: u64,
+    is_begun: bool,
+    is_broken: bool,
+    may_feed: bool,
+}
+
+impl Model for JournalReader {
+    ghost use Rattle.std.specs.Prelude.{◌≡◌, ◌+◌, ◌-◌, ◌<◌, ◌≤◌, ◌^◌, length, IsTrue, IsFalse};
+    ghost use Rattle.plain_words.specs.Words.{HasNo};
+    ghost use Rattle.journal_text.specs.JournalText.{most_line};
+    ghost use Rattle.journal_text.specs.Reading.{Reading, most_held};
+
+    ghost Value = { Reading };
+
+    ghost view = { λ r. record { held = r.lines; offset = r.offset; is_begun = r.is_begun; is_broken = r.is_broken; may_feed = r.may_feed } };
+
+    ghost invariant = { λ r. (length r.lines ≤ most_held) × (r.offset + length r.lines < 2 ^ 63 - 1) × (IsTrue r.may_feed → (length r.lines ≤ most_line) × HasNo 10 r.lines) };
+}
+
+impl JournalReader {
+    /// A reader that was fed nothing. It takes no memory.
+    pub fn new(alloc: Global) -> JournalReader
+        ensures is_new { result ≡ new_reader }
+        ensures reads { HasRead [] None result }
+    {
+        JournalReader {
+            alloc,
+            lines: HeldLines::new(alloc),
+            offset: 0,
+            is_begun: false,
+            is_broken: false,
+            may_feed: true,
+        }
+    }
+
+    /// Adds a piece of at most 16,384 bytes to those held; a broken reader keeps nothing. The caller
+    /// has heard `More` or `NotAJournal` since the last piece. After `NoMemory` nothing has changed.
+    pub fn feed(&mut self, piece: &[u8]) -> Result<(), NoMemory>
+        requires piece { length piece.now ≤ most_piece }
+        requires may_feed { IsTrue self.old.may_feed }
+        requires text_fits { self.old.offset + length self.old.held + length piece.now < 2 ^ 63 - 1 }
+        ensures ok { OnOk result (self.new ≡ fed self.old piece.now) }
+        ensures err { OnErr result (self.new ≡ self.old) }
+        ensures bound { length self.new.held ≤ most_held }
+        ensures reads { OnOk result ((text : List ℕ) (taken : Taken) → HasRead text taken self.old → HasRead (text ++ piece.now) taken self.new) }
+    {
+        self.add(piece)
+    }
+
+    fn add(&mut self, piece: &[u8]) -> Result<(), NoMemory>
+        requires piece { length piece.now ≤ most_piece }
+        requires may_feed { IsTrue self.old.may_feed }
+        requires text_fits { self.old.offset + length self.old.held + length piece.now < 2 ^ 63 - 1 }
+        ensures ok { OnOk result (self.new ≡ fed self.old piece.now) }
+        ensures err { OnErr result (self.new ≡ self.old) }
+        ensures bound { length self.new.held ≤ most_held }
+    {
+        if self.is_broken {
+            self.lines.clear();
+        } else {
+            self.lines.feed(piece)?;
+        }
+        self.may_feed = false;
+        Ok(())
+    }
+
+    fn take(&mut self, len: usize)
+        requires { len < length self.old.held }
+        ensures { self.new ≡ record { held = drop (len + 1) self.old.held; offset = self.old.offset + (len + 1); is_begun = true; is_broken = self.old.is_broken; may_feed = false } }
+    {
+        self.lines.take_line(len);
+        self.offset += len as u64 + 1;
+        self.is_begun = true;
+        self.may_feed = false;
+    }
+
+    fn break_off(&mut self) -> JournalNext
+        ensures answer { result ≡ JournalNext.NotAJournal self.old.offset }
+        ensures broken { self.new ≡ broken self.old }
+    {
+        self.lines.clear();
+        self.is_broken = true;
+        self.may_feed = true;
+        JournalNext::NotAJournal {
+            offset: self.offset,
+        }
+    }
+
+    /// The first line of the bytes held, which is taken.
+    pub fn next(&mut self) -> JournalNext
+        // The line with the place, where nothing was taken before.
+        ensures head { IfHead result (λ place. PlaceFits place × IsFalse self.old.is_begun × TakesLine (head_words place) self.old self.new) }
+
+        // The line of an entry, behind that.
+        ensures entry { IfEntry result (λ e. EntryFits e × IsTrue self.old.is_begun × TakesLine (entry_words e) self.old self.new) }
+
+        // No line is whole, and there is room for more bytes.
+        ensures more { result ≡ JournalNext.More → self.new ≡ waiting self.old }
+        ensures none_whole { result ≡ JournalNext.More → IsFalse self.old.is_broken × HasNo 10 self.old.held × (length self.old.held ≤ most_line) }
+
+        // The first line is none of its place, whatever follows, and the reader stays broken.
+        ensures offset { IfNotAJournal result (λ offset. offset ≡ self.old.offset) }
+        ensures broken { IfNotAJournal result (λ _. self.new ≡ broken self.old) }
+        ensures no_line { IfNotAJournal result (λ _. IsTrue self.old.is_broken ⊎ IsNoLine self.old.is_begun self.old.held) }
+        ensures stays { IsTrue self.old.is_broken → result ≡ JournalNext.NotAJournal self.old.offset }
+
+        ensures no_memory { result ≡ JournalNext.NoMemory → self.new ≡ self.old }
+        ensures bound { length self.new.held ≤ most_held }
+
+        // What was taken of a text grows by the answer, and where it stops, the text is no journal.
+        ensures reads { (text : List ℕ) (taken : Taken) → HasRead text taken self.old → HasRead text (taken_with result taken) self.new }
+        ensures stops { IfNotAJournal result (λ offset. (text : List ℕ) (taken : Taken) → HasRead text taken self.old → StopsAt text offset) }
+    {
+        if self.is_broken {
+            return self.break_off();
+        }
+        let Some(len) = self.lines.first_line() else {
+            if self.lines.as_slice().len() > MOST_LINE {
+                return self.break_off();
+            }
+            self.may_feed = true;
+            return JournalNext::More;
+        };
+        let words = &self.lines.as_slice()[..len];
+        if self.is_begun {
+            match read_entry(self.alloc, words) {
+                Ok(Some(entry)) => {
+                    self.take(len);
+                    JournalNext::Entry(entry)
+                }
+                Ok(None) => self.break_off(),
+                Err(NoMemory) => JournalNext::NoMemory,
+            }
+        } else {
+            match read_head(words) {
+                Some(place) => {
+                    self.take(len);
+                    JournalNext::Head { place }
+                }
+                None => self.break_off(),
+            }
+        }
+    }
+
+    /// Where a text that ends here is no journal: `None` exactly where it is one. Else the offset of
+    /// the line at which the reader is broken, or of a last line without its line feed, or 0 for the
+    /// empty text. The caller has heard `More` or `NotAJournal` since the last piece.
+    pub fn finish(&self) -> Option<u64>
+        requires { IsTrue self.now.may_feed }
+        ensures whole { result ≡ None ↔ (IsFalse self.now.is_broken × IsTrue self.now.is_begun × (self.now.held ≡ [])) }
+        ensures offset { IfSome result (λ offset. offset ≡ self.now.offset) }
+        ensures journal { IfNone result ((text : List ℕ) (taken : Taken) → HasRead text taken self.now → IsJournalOf text taken) }
+        ensures stops { IfSome result (λ offset. (text : List ℕ) (taken : Taken) → HasRead text taken self.now → StopsAt text offset) }
+    {
+        if !self.is_broken && self.is_begun && self.lines.as_slice().is_empty() {
+            return None;
+        }
+        Some(self.offset)
+    }
+}

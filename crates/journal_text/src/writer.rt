@@ -1,0 +1,203 @@
+//! Journals written: the first line, and a line for each entry.
+ghost use Rattle.std.specs.Prelude.{◌≡◌, ◌++◌, take, OnOk, OnErr, is_ok, decimal, if◌then◌else◌};
+ghost use Rattle.hex.specs.Hex.{encode_lower};
+ghost use Rattle.asp_messages.specs.Appending.{Extends};
+ghost use Rattle.asp_messages.specs.PlainSpelling.{◌then◌, bytes_word};
+ghost use Rattle.session_machine.specs.History.{IsFormed};
+ghost use Rattle.plain_words.specs.Words.{AreBytes};
+ghost use Rattle.journal_text.specs.JournalText.{PlaceFits, EntryFits, DeedHasBytes, AskHasBytes, ReplyHasBytes, head_line, entry_line, number_words, key_word, deed_words};
+
+use asp_base::{Bytes, NoMemory};
+use asp_messages::{Ask, Reply, spell_ask, spell_reply};
+use itoa::Buffer;
+use session_machine::{Deed, Entry};
+
+/// The most bytes of a line, without its line feed.
+pub const MOST_LINE: usize = 16_800_000;
+
+const DIGITS: [u8; 16] = *b"0123456789abcdef";
+
+fn push(out: &mut Vec<u8>, text: &[u8]) -> Result<(), NoMemory>
+    ensures ok { OnOk result (out.new.items ≡ out.old.items ++ text.now) }
+    ensures err { OnErr result (Extends out.old.items out.new.items) }
+{
+    out.extend_from_slice(text)?;
+    Ok(())
+}
+
+fn push_number(out: &mut Vec<u8>, n: u64) -> Result<(), NoMemory>
+    ensures ok { OnOk result (out.new.items ≡ out.old.items ++ decimal n) }
+    ensures err { OnErr result (Extends out.old.items out.new.items) }
+{
+    let mut buffer = Buffer::new();
+    push(out, buffer.format(n).as_bytes())
+}
+
+fn then_number(out: &mut Vec<u8>, n: u64) -> Result<(), NoMemory>
+    ensures ok { OnOk result (out.new.items ≡ out.old.items then decimal n) }
+    ensures err { OnErr result (Extends out.old.items out.new.items) }
+{
+    push(out, b" ")?;
+    push_number(out, n)
+}
+
+/// After a failure, takes off what was appended since the buffer had this length.
+fn or_undo(written: Result<(), NoMemory>, out: &mut Vec<u8>, len: usize) -> Result<(), NoMemory>
+    ensures result { result ≡ written }
+    ensures items { out.new.items ≡ (if is_ok written then out.old.items else take len out.old.items) }
+{
+    if written.is_err() {
+        out.truncate(len);
+    }
+    written
+}
+
+fn push_hex(out: &mut Vec<u8>, bytes: &[u8]) -> Result<(), NoMemory>
+    ensures ok { OnOk result (out.new.items ≡ out.old.items ++ encode_lower bytes.now) }
+    ensures err { OnErr result (Extends out.old.items out.new.items) }
+{
+    for byte in bytes {
+        push(
+            out,
+            &[DIGITS[(byte / 16) as usize], DIGITS[(byte % 16) as usize]],
+        )?;
+    }
+    Ok(())
+}
+
+fn push_bytes(out: &mut Vec<u8>, bytes: &Bytes) -> Result<(), NoMemory>
+    ensures ok { OnOk result (out.new.items ≡ out.old.items ++ bytes_word bytes.now) }
+    ensures err { OnErr result (Extends out.old.items out.new.items) }
+{
+    push(out, b"x")?;
+    push_hex(out, bytes.as_slice())
+}
+
+fn push_key(out: &mut Vec<u8>, deed: &Deed) -> Result<(), NoMemory>
+    ensures ok { OnOk result (out.new.items ≡ out.old.items ++ key_word deed.now) }
+    ensures err { OnErr result (Extends out.old.items out.new.items) }
+{
+    match deed {
+        Deed::Asked(request) => push_bytes(out, &request.key),
+        Deed::Expired(key) => push_bytes(out, key),
+        Deed::Looked => push(out, b"-"),
+    }
+}
+
+fn push_deed(out: &mut Vec<u8>, deed: &Deed) -> Result<(), NoMemory>
+    ensures ok { OnOk result (out.new.items ≡ out.old.items ++ deed_words deed.now) }
+    ensures err { OnErr result (Extends out.old.items out.new.items) }
+{
+    match deed {
+        Deed::Asked(request) => spell_ask(out, &request.ask),
+        Deed::Expired(_) => push(out, b"expired"),
+        Deed::Looked => push(out, b"looked"),
+    }
+}
+
+/// Appends the key of the deed and what was done, each behind a space.
+fn then_deed(out: &mut Vec<u8>, deed: &Deed) -> Result<(), NoMemory>
+    ensures ok { OnOk result (out.new.items ≡ out.old.items then key_word deed.now then deed_words deed.now) }
+    ensures err { OnErr result (Extends out.old.items out.new.items) }
+{
+    push(out, b" ")?;
+    push_key(out, deed)?;
+    push(out, b" ")?;
+    push_deed(out, deed)
+}
+
+fn push_numbers(out: &mut Vec<u8>, entry: &Entry) -> Result<(), NoMemory>
+    ensures ok { OnOk result (out.new.items ≡ out.old.items ++ number_words entry.now) }
+    ensures err { OnErr result (Extends out.old.items out.new.items) }
+{
+    push_number(out, entry.caller)?;
+    then_number(out, entry.moment)?;
+    then_number(out, entry.faults)?;
+    then_number(out, entry.drawn)
+}
+
+#[tactic(auto, unfolding(crate::specs::JournalText::entry_words))]
+fn push_entry(out: &mut Vec<u8>, entry: &Entry) -> Result<(), NoMemory>
+    ensures ok { OnOk result (out.new.items ≡ out.old.items ++ entry_line entry.now) }
+    ensures err { OnErr result (Extends out.old.items out.new.items) }
+{
+    push_numbers(out, entry)?;
+    then_deed(out, &entry.deed)?;
+    push(out, b" : ")?;
+    spell_reply(out, &entry.reply)?;
+    push(out, b"\n")
+}
+
+fn push_head(out: &mut Vec<u8>, place: u64) -> Result<(), NoMemory>
+    ensures ok { OnOk result (out.new.items ≡ out.old.items ++ head_line place) }
+    ensures err { OnErr result (Extends out.old.items out.new.items) }
+{
+    push(out, b"asp-journal 1 ")?;
+    push_number(out, place)?;
+    push(out, b"\n")
+}
+
+/// Bytes are bytes.
+fn are_bytes(bytes: &[u8])
+    ensures { AreBytes bytes.now }
+{
+    let _bytes = bytes;
+}
+
+fn deed_has_bytes(deed: &Deed)
+    ensures { DeedHasBytes deed.now }
+{
+    match deed {
+        Deed::Asked(request) => {
+            are_bytes(request.key.as_slice());
+            ask_has_bytes(&request.ask);
+        }
+        Deed::Expired(key) => are_bytes(key.as_slice()),
+        Deed::Looked => {}
+    }
+}
+
+fn ask_has_bytes(ask: &Ask)
+    ensures { AskHasBytes ask.now }
+{
+    if let Ask::Write { body, .. } = ask {
+        are_bytes(body.as_slice());
+    }
+}
+
+fn reply_has_bytes(reply: &Reply)
+    ensures { ReplyHasBytes reply.now }
+{
+    if let Reply::Found { body, .. } = reply {
+        are_bytes(body.as_slice());
+    }
+}
+
+/// Appends the first line of a journal whose first entry has this place. After `NoMemory` the buffer
+/// holds what it held.
+pub fn write_head(out: &mut Vec<u8>, place: u64) -> Result<(), NoMemory>
+    requires { PlaceFits place }
+    ensures ok { OnOk result (out.new.items ≡ out.old.items ++ head_line place) }
+    ensures err { OnErr result (out.new.items ≡ out.old.items) }
+{
+    let len = out.len();
+    let written = push_head(out, place);
+    or_undo(written, out, len)
+}
+
+/// Appends the line of an entry. After `NoMemory` the buffer holds what it held.
+pub fn write_entry(out: &mut Vec<u8>, entry: &Entry) -> Result<(), NoMemory>
+    requires { IsFormed entry.now }
+    ensures ok { OnOk result (out.new.items ≡ out.old.items ++ entry_line entry.now) }
+    ensures err { OnErr result (out.new.items ≡ out.old.items) }
+
+    // What the types say of the entry's numbers and bytes, whatever the result.
+    ensures fits { EntryFits entry.now }
+{
+    let _faults = entry.faults;
+    deed_has_bytes(&entry.deed);
+    reply_has_bytes(&entry.reply);
+    let len = out.len();
+    let written = push_entry(out, entry);
+    or_undo(written, out, len)
+}
