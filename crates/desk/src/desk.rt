@@ -79,6 +79,7 @@ impl<K: Keeper> Desk<K> {
         requires request { RequestFits request }
         ensures fits { ReplyFits result.reply }
         ensures place { HasPlace result.reply }
+        ensures drawn { DrawFits request.ask result.drawn }
 
         // Behind each history that the desk stands for, the request's entry makes a history that it stands for, and its cookie is the next by counting.
         ensures stands { (first caller : ℕ) (opening : List ℕ → Option Item) (count : ℕ) (list : List Entry) → caller < 2 ^ 63
@@ -115,6 +116,13 @@ impl<K: Keeper> Desk<K> {
         ensures floor { K.floor self.new.keeper ≡ K.floor self.old.keeper }
     {
         self.shard.sweep_one(t)
+    }
+
+    /// How often the keeper failed.
+    pub fn faults(&self) -> u64
+        ensures { result ≡ K.count self.now.keeper }
+    {
+        self.shard.faults()
     }
 
     /// The keeper.
