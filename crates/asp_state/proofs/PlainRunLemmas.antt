@@ -1,5 +1,6 @@
 -- What is asked and written, with one message more.
-use Rattle.std.proofs.Common.{◌≡◌, ℕ, ◌+◌, List, [], ◌∷◌, ◌++◌, length, map, sym, ap, ◌∙◌, arith, append_assoc, append-nil}
+use Rattle.std.proofs.Common.{◌≡◌, ℕ, ◌+◌, List, [], ◌∷◌, ◌++◌, length, map, refl, sym, ap, ◌∙◌, arith, append_assoc, append-nil}
+use Rattle.std.specs.List.{flat_map}
 use Rattle.asp_base.specs.Moments.{step_moment}
 use Rattle.asp_messages.specs.declared.request.Message.{Message}
 use Rattle.asp_messages.specs.declared.request.Message.TheVariants.{Fit, Unfit}
@@ -9,7 +10,9 @@ use Rattle.asp_messages.specs.Fields.{most_cookie}
 use Rattle.asp_messages.specs.ReplyText.{reply_text}
 use Rattle.session_machine.specs.declared.entry.Entry.{Entry}
 use Rattle.session_machine.specs.declared.entry.Deed.TheVariants.{Asked}
-use Rattle.asp_state.specs.PlainRun.{Asking, asking_of, askings, draws, draw_of, written}
+use Rattle.desk.specs.Draws.{draws, draw_of, deed_draws, draws_in}
+use Rattle.journal_text.specs.JournalText.{entry_line, head_line, journal_text}
+use Rattle.asp_state.specs.PlainRun.{Asking, asking_of, askings, written, output}
 use Rattle.asp_state.specs.Progress.{total_draws}
 
 pub askings-push : (start step first k j : ℕ) (ms : List Message) (m : Message)
@@ -56,3 +59,24 @@ written-fit start step first k j (Fit q ∷ ms) [] r e is = cc
 written-fit start step first k j (Fit q ∷ ms) (f ∷ fs) r e is =
     let tail : map asking_of fs ≡ askings start step first (k + 1) (j + draws q.ask) ms = cc in
     ap (λ t. reply_text f.reply ++ t) (written-fit start step first (k + 1) (j + draws q.ask) ms fs r e tail) ∙ sym (append_assoc (reply_text f.reply) (written ms fs) (reply_text e.reply))
+
+-- the cookies that the entries draw are those of the messages
+pub draws_in-plain : (start step first k j : ℕ) (ms : List Message) (list : List Entry) → map asking_of list ≡ askings start step first k j ms
+    → draws_in list ≡ total_draws ms
+draws_in-plain start step first k j [] [] is = refl
+draws_in-plain start step first k j [] (e ∷ es) is = cc
+draws_in-plain start step first k j (Unfit ∷ ms) list is = draws_in-plain start step first (k + 1) j ms list is
+draws_in-plain start step first k j (Fit r ∷ ms) [] is = cc
+draws_in-plain start step first k j (Fit r ∷ ms) (e ∷ es) is =
+    let head : asking_of e ≡ (0, step_moment start step k, Asked r, draw_of first most_cookie j r.ask) = cc in
+    let tail : map asking_of es ≡ askings start step first (k + 1) (j + draws r.ask) ms = cc in
+    let one : deed_draws e.deed ≡ draws r.ask = ap (λ (a : Asking). deed_draws a.2) head in
+    let rest = draws_in-plain start step first (k + 1) (j + draws r.ask) ms es tail in
+    omega (arith, one, rest)
+
+-- ---- what a run writes
+
+pub journal_text-push : (place : ℕ) (list : List Entry) (e : Entry) → journal_text place (list ++ e ∷ []) ≡ journal_text place list ++ entry_line e
+journal_text-push place list e =
+    ap (λ t. head_line place ++ t) (flat_map-append entry_line list (e ∷ []) ∙ ap (λ t. flat_map entry_line list ++ t) (append-nil (entry_line e)))
+    ∙ sym (append_assoc (head_line place) (flat_map entry_line list) (entry_line e))

@@ -1,28 +1,17 @@
 -- A plain run: what the messages of a stream ask of the session machine, and what is written for them. Nothing here depends
 -- on how the bytes were cut.
-use Rattle.std.specs.Prelude.{◌≡◌, ℕ, ◌+◌, List, [], ◌∷◌, ◌++◌, map, unwrap_or}
+use Rattle.std.specs.Prelude.{◌≡◌, ◌⊎◌, ℕ, ◌+◌, List, [], ◌∷◌, ◌++◌, map, Bool, true, false}
 use Rattle.asp_base.specs.Moments.{step_moment}
-use Rattle.asp_messages.specs.declared.request.Ask.{Ask}
-use Rattle.asp_messages.specs.declared.request.Ask.TheVariants.{Acquire}
 use Rattle.asp_messages.specs.declared.request.Message.{Message}
 use Rattle.asp_messages.specs.declared.request.Message.TheVariants.{Fit, Unfit}
 use Rattle.asp_messages.specs.declared.reply.Reply.TheVariants.{Bad}
 use Rattle.asp_messages.specs.Fields.{most_cookie}
 use Rattle.asp_messages.specs.ReplyText.{reply_text}
-use Rattle.cookie_source.specs.Counting.{nth_cookie}
+use Rattle.desk.specs.Draws.{draws, draw_of}
+use Rattle.journal_text.specs.JournalText.{entry_line, journal_text}
 use Rattle.session_machine.specs.declared.entry.Entry.{Entry}
 use Rattle.session_machine.specs.declared.entry.Deed.{Deed}
 use Rattle.session_machine.specs.declared.entry.Deed.TheVariants.{Asked}
-
--- how many cookies an ask draws
-abbrev pub draws : Ask → ℕ
-draws Acquire = 1
-draws ask = 0
-
--- what an ask draws after j draws: the j-th cookie from the first on, 0 past the last; only an acquire draws
-abbrev pub draw_of : ℕ → ℕ → ℕ → Ask → ℕ
-draw_of first last j Acquire = unwrap_or (nth_cookie first last j) 0
-draw_of first last j ask = 0
 
 -- what is asked of the machine: the caller, the moment, the deed and the drawn cookie
 abbrev pub Asking : Type 0
@@ -49,3 +38,18 @@ written [] list = []
 written (Unfit ∷ ms) list = reply_text Bad ++ written ms list
 written (Fit r ∷ ms) [] = []
 written (Fit r ∷ ms) (e ∷ es) = reply_text e.reply ++ written ms es
+
+-- what a run writes: the replies, or the journal of its entries
+abbrev pub output : Bool → List Message → List Entry → List ℕ
+output false ms list = written ms list
+output true ms list = journal_text 0 list
+
+-- what is written behind that for bytes that are no whole messages: one more `Bad`, and nothing into a journal
+abbrev pub closing : Bool → List ℕ
+closing false = reply_text Bad
+closing true = []
+
+-- what a run may leave out for want of memory: the last line of a journal
+abbrev pub MayLack : Bool → List ℕ → Type 0
+MayLack false line = line ≡ []
+MayLack true line = (line ≡ []) ⊎ ((e : Entry) × (line ≡ entry_line e))

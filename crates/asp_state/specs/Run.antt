@@ -1,10 +1,8 @@
 -- A run of `pipe`, from the bytes that were taken to those that were written.
-use Rattle.std.specs.Prelude.{◌⊎◌, ◌≢◌, ◌≡◌, ℕ, ◌<◌, ◌≤◌, ◌^◌, List, [], ◌++◌, length, Option, Some, None, ⊤}
+use Rattle.std.specs.Prelude.{◌⊎◌, ◌≢◌, ◌≡◌, ℕ, ◌<◌, ◌≤◌, ◌^◌, List, [], ◌++◌, length, Option, Some, None, Bool, ⊤}
 use Rattle.std.specs.List.{AllByRecursion}
 use Rattle.asp_base.specs.Outside.{Gives, IsAtEnd, Takes, TakesFront}
 use Rattle.asp_messages.specs.declared.request.Message.{Message}
-use Rattle.asp_messages.specs.declared.reply.Reply.TheVariants.{Bad}
-use Rattle.asp_messages.specs.ReplyText.{reply_text}
 use Rattle.asp_messages.specs.RequestSpelling.{SpellsRequest}
 use Rattle.asp_messages.specs.Stream.{Spelled, HasNoMessage, IsHopeless}
 use Rattle.lock_laws.specs.Laws.{LocksHold}
@@ -15,7 +13,7 @@ use Rattle.shard_core.specs.Standing.{StandsFor}
 use Rattle.asp_state.specs.declared.pipe.Pipe.{Pipe}
 use Rattle.asp_state.specs.declared.pipe.End.{End}
 use Rattle.asp_state.specs.declared.pipe.End.TheVariants.{Whole, Broken, ReadFault, WriteFault, NoMemory, Long}
-use Rattle.asp_state.specs.PlainRun.{IsPlainRun, written}
+use Rattle.asp_state.specs.PlainRun.{IsPlainRun, output, closing, MayLack}
 
 -- The numbers of a run are in range.
 pub record PipeFits (pipe : Pipe) : Type 0 where
@@ -30,17 +28,18 @@ abbrev pub IsBroken : Option (List ℕ × List ℕ) → List ℕ → Type 0
 IsBroken source' rest = (rest ≢ []) × (IsHopeless SpellsRequest rest ⊎ IsAtEnd source')
 
 -- What holds at each ending: of the source and the sink after it, of the rest that is no whole message, of how many bytes were taken
--- of the most, and of the bytes that are due for the messages before the rest.
-abbrev pub EndsAs : End → Option (List ℕ × List ℕ) → Option (List ℕ) → Option (List ℕ) → List ℕ → ℕ → ℕ → List ℕ → Type 0
-EndsAs Whole source' sink sink' rest count most due = IsAtEnd source' × (rest ≡ []) × (count < most) × Takes sink sink' due
-EndsAs Broken source' sink sink' rest count most due =
-    IsBroken source' rest × HasNoMessage SpellsRequest rest × (count < most) × Takes sink sink' (due ++ reply_text Bad)
-EndsAs ReadFault source' sink sink' rest count most due = HasNoMessage SpellsRequest rest × (count < most) × Takes sink sink' due
-EndsAs WriteFault source' sink sink' rest count most due =
+-- of the most, and of the bytes that are due for the messages before the rest (replies, or a journal).
+abbrev pub EndsAs : End → Bool → Option (List ℕ × List ℕ) → Option (List ℕ) → Option (List ℕ) → List ℕ → ℕ → ℕ → List ℕ → Type 0
+EndsAs Whole journal source' sink sink' rest count most due = IsAtEnd source' × (rest ≡ []) × (count < most) × Takes sink sink' due
+EndsAs Broken journal source' sink sink' rest count most due =
+    IsBroken source' rest × HasNoMessage SpellsRequest rest × (count < most) × Takes sink sink' (due ++ closing journal)
+EndsAs ReadFault journal source' sink sink' rest count most due = HasNoMessage SpellsRequest rest × (count < most) × Takes sink sink' due
+EndsAs WriteFault journal source' sink sink' rest count most due =
     TakesFront sink sink' due
-    ⊎ (IsBroken source' rest × HasNoMessage SpellsRequest rest × (count < most) × TakesFront sink sink' (due ++ reply_text Bad))
-EndsAs NoMemory source' sink sink' rest count most due = Takes sink sink' due
-EndsAs Long source' sink sink' rest count most due = HasNoMessage SpellsRequest rest × (count ≡ most) × Takes sink sink' due
+    ⊎ (IsBroken source' rest × HasNoMessage SpellsRequest rest × (count < most) × TakesFront sink sink' (due ++ closing journal))
+EndsAs NoMemory journal source' sink sink' rest count most due =
+    (shown : List ℕ) × (lacking : List ℕ) × (due ≡ shown ++ lacking) × MayLack journal lacking × Takes sink sink' shown
+EndsAs Long journal source' sink sink' rest count most due = HasNoMessage SpellsRequest rest × (count ≡ most) × Takes sink sink' due
 
 -- the exit status of an ending
 abbrev pub status_number : End → ℕ
@@ -57,7 +56,7 @@ TellsLocks None list = ⊤
 TellsLocks (Some items) list = LocksHold nothing 0 list
 
 -- A run: the bytes taken are messages and a rest; the entries are a plain run of the messages; the keeper that is handed back has the
--- items and the count after them; locks hold what they give; and the replies were written as the ending says. (CanCount says which counts of faults the keeper's
+-- items and the count after them; locks hold what they give; and the replies, or the journal, were written as the ending says. (CanCount says which counts of faults the keeper's
 -- type can have; told and faults are what the keeper tells and counts after the run.)
 pub record IsRun (CanCount : ℕ → Type 0) (pipe : Pipe) (source source' : Option (List ℕ × List ℕ)) (sink sink' : Option (List ℕ))
     (told : Option (List ℕ → Option Item)) (faults : ℕ) (end : End) : Type 0 where
@@ -71,7 +70,7 @@ pub record IsRun (CanCount : ℕ → Type 0) (pipe : Pipe) (source source' : Opt
   pub counts : AllByRecursion (λ e. CanCount e.faults) list
   pub stands : StandsFor nothing 0 list told faults
   pub locks : TellsLocks told list
-  pub ends : EndsAs end source' sink sink' rest (length bytes) pipe.most (written messages list)
+  pub ends : EndsAs end pipe.journal source' sink sink' rest (length bytes) pipe.most (output pipe.journal messages list)
 
 -- the input is whole messages of fewer than so many bytes
 abbrev pub IsWholeInput : Option (List ℕ × List ℕ) → ℕ → Type 0

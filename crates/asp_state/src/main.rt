@@ -4,6 +4,7 @@
 mod answering;
 mod commands;
 mod identifiers;
+mod noting;
 mod pipe;
 mod reading;
 mod running;

@@ -1,5 +1,5 @@
 //! The top call of a run.
-ghost use Rattle.std.specs.Prelude.{◌≡◌, ◌⊎◌, ◌≤◌, false};
+ghost use Rattle.std.specs.Prelude.{◌≡◌, ◌⊎◌, ◌≤◌};
 ghost use Rattle.asp_base.specs.Causes.{Rose};
 ghost use Rattle.keeper.specs.Items.{IsEmptyTold};
 ghost use Rattle.asp_state.specs.declared.pipe.End.{End};
@@ -10,9 +10,8 @@ use crate::running::run;
 use crate::server::Server;
 use asp_base::{Sink, Source, StepClock};
 use asp_messages::MOST_COOKIE;
-use cookie_source::PlainCookies;
+use desk::Desk;
 use keeper::{Keeper, Ran};
-use shard_core::Shard;
 use std::alloc::Global;
 use stream_core::Stream;
 
@@ -30,8 +29,8 @@ fn status_number(end: End) -> u8
     }
 }
 
-/// Answers the requests on the source, one after the other, and hands the keeper back. It waits for
-/// nobody, and returns.
+/// Answers the requests on the source, one after the other, writes the replies or the journal of what
+/// was done, and hands the keeper back. It waits for nobody, and returns.
 ///
 /// The status is 0 where the input was whole messages and each was answered; 3 where it was not; 4
 /// and 5 where the source or the sink failed; 6 where memory was wanting; 7 where the most bytes were
@@ -44,7 +43,6 @@ pub fn run_pipe<S: Source, T: Sink, K: Keeper>(
     keeper: K,
 ) -> Ran<K>
     requires pipe { PipeFits pipe }
-    requires journal { pipe.journal ≡ false }
     requires no_faults { K.count keeper ≡ 0 }
     requires empty { IsEmptyTold (K.told keeper) }
 
@@ -60,14 +58,14 @@ pub fn run_pipe<S: Source, T: Sink, K: Keeper>(
     ensures floor { K.floor result.keeper ≡ K.floor keeper }
 {
     let mut server = Server {
+        alloc,
         stream: Stream::new(alloc),
-        shard: Shard::new(alloc, keeper),
-        cookies: PlainCookies::new(pipe.first, MOST_COOKIE),
+        desk: Desk::new(alloc, keeper, pipe.first, MOST_COOKIE),
         clock: StepClock::new(pipe.start, pipe.step),
     };
     let end = run(pipe, &mut server, source, sink);
     Ran {
         status: status_number(end),
-        keeper: server.shard.into_keeper(),
+        keeper: server.desk.into_keeper(),
     }
 }

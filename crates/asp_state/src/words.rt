@@ -25,7 +25,6 @@ pub enum Command {
 #[tactic(auto, unfolding(crate::specs::Words::pipe_of))]
 fn pipe_of(words: &[String]) -> Option<Pipe>
     ensures fits { IfSome result PipeFits }
-    ensures journal { IfSome result (λ pipe. pipe.journal ≡ false) }
     ensures value { result ≡ pipe_of (map string_bytes words.now) }
 {
     let [name, start, step, first] = words else {
@@ -67,7 +66,6 @@ fn id_of(words: &[String]) -> Option<[u8; 15]>
 #[tactic(auto, unfolding(crate::specs::Words::command_of))]
 pub fn command_of(words: &[String]) -> Option<Command>
     ensures fits { IfSome result (λ command. IfPipe command PipeFits) }
-    ensures journal { IfSome result (λ command. IfPipe command (λ pipe. pipe.journal ≡ false)) }
     ensures value { result ≡ command_of (map string_bytes words.now) }
 {
     if let Some(pipe) = pipe_of(words) {

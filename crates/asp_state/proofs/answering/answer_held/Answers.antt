@@ -9,9 +9,8 @@ use Rattle.asp_state.proofs.answering.answer_held.Goals as goal
 
 pub loop-message-init : goal.loop-message-init
 loop-message-init g c = record {
-  goes = GoesOn-refl _ _ _;
+  goes = GoesOn-refl g.K.Keeper.can_count c.args.journal (g.T.Sink.taken c.args.sink.now) (state_of c.args.server.now (g.K.Keeper.told c.args.server.now.desk.keeper) (g.K.Keeper.count c.args.server.now.desk.keeper));
   whole = c.requires.whole;
-  cookies = c.requires.cookies;
   faults = omega arith;
   floor = refl;
 }
@@ -24,25 +23,24 @@ answer-requires-clause-message g c =
 pub loop-message-smaller : goal.loop-message-smaller
 loop-message-smaller g c =
     let took = c.in-Message.ensures.message in
-    let held = ap (λ (r : Held). length r.held) c.answer.ensures.reader in
+    let held = ap (λ (r : Held). length r.held) c.answer_one.ensures.reader in
     omega (arith, held, spelling_some took.front c.in-Message.message took.spells, ap length took.held, length-append took.front c.next.new.self.reader.held)
 
 pub loop-message-preserved : goal.loop-message-preserved
 loop-message-preserved g c =
     let took = c.in-Message.ensures.message in
     record {
-      goes = GoesOn-step g.K.Keeper.can_count (g.T.Sink.taken c.args.sink.now) (g.T.Sink.taken c.loop-message.sink) (g.T.Sink.taken c.answer.new.sink) (state_of c.args.server.now (g.K.Keeper.told c.args.server.now.shard) (g.K.Keeper.count c.args.server.now.shard)) (state_of c.loop-message.server (g.K.Keeper.told c.loop-message.server.shard) (g.K.Keeper.count c.loop-message.server.shard)) (state_of c.answer.new.server (g.K.Keeper.told c.answer.new.server.shard) (g.K.Keeper.count c.answer.new.server.shard)) took.front c.next.new.self.reader.held c.in-Message.message
+      goes = GoesOn-step g.K.Keeper.can_count c.args.journal (g.T.Sink.taken c.args.sink.now) (g.T.Sink.taken c.loop-message.sink) (g.T.Sink.taken c.answer_one.new.sink) (state_of c.args.server.now (g.K.Keeper.told c.args.server.now.shard) (g.K.Keeper.count c.args.server.now.shard)) (state_of c.loop-message.server (g.K.Keeper.told c.loop-message.server.desk.keeper) (g.K.Keeper.count c.loop-message.server.desk.keeper)) (state_of c.answer_one.new.server (g.K.Keeper.told c.answer_one.new.server.desk.keeper) (g.K.Keeper.count c.answer_one.new.server.desk.keeper)) took.front c.next.new.self.reader.held c.in-Message.message
           c.loop-message.invariant.goes took.held took.spells c.in-Ok.ensures.answered;
-      whole = ap (λ (r : Held). r.is_broken) c.answer.ensures.reader ∙ took.whole ∙ c.loop-message.invariant.whole;
-      cookies = c.answer.ensures.cookies;
-      faults = omega (arith, c.answer.ensures.cause.later, c.loop-message.invariant.faults);
-      floor = c.answer.ensures.floor ∙ c.loop-message.invariant.floor;
+      whole = ap (λ (r : Held). r.is_broken) c.answer_one.ensures.reader ∙ took.whole ∙ c.loop-message.invariant.whole;
+      faults = omega (arith, c.answer_one.ensures.cause.later, c.loop-message.invariant.faults);
+      floor = c.answer_one.ensures.floor ∙ c.loop-message.invariant.floor;
     }
 
 pub returns-in-Err-clause-in_part : goal.returns-in-Err-clause-in_part
 returns-in-Err-clause-in_part g c = λ _.
     let took = c.in-Message.ensures.message in
-    GoesOn-part g.K.Keeper.can_count (g.T.Sink.taken c.args.sink.now) (g.T.Sink.taken c.loop-message.sink) (g.T.Sink.taken c.answer.new.sink) (state_of c.args.server.now (g.K.Keeper.told c.args.server.now.shard) (g.K.Keeper.count c.args.server.now.shard)) (state_of c.loop-message.server (g.K.Keeper.told c.loop-message.server.shard) (g.K.Keeper.count c.loop-message.server.shard)) (state_of c.answer.new.server (g.K.Keeper.told c.answer.new.server.shard) (g.K.Keeper.count c.answer.new.server.shard)) took.front c.next.new.self.reader.held c.in-Message.message
+    GoesOn-part g.K.Keeper.can_count c.args.journal (g.T.Sink.taken c.args.sink.now) (g.T.Sink.taken c.loop-message.sink) (g.T.Sink.taken c.answer_one.new.sink) (state_of c.args.server.now (g.K.Keeper.told c.args.server.now.shard) (g.K.Keeper.count c.args.server.now.shard)) (state_of c.loop-message.server (g.K.Keeper.told c.loop-message.server.desk.keeper) (g.K.Keeper.count c.loop-message.server.desk.keeper)) (state_of c.answer_one.new.server (g.K.Keeper.told c.answer_one.new.server.desk.keeper) (g.K.Keeper.count c.answer_one.new.server.desk.keeper)) took.front c.next.new.self.reader.held c.in-Message.message
     c.loop-message.invariant.goes took.held took.spells c.in-Err.ensures.in_part
 
 pub returns-in-More-clause-waits : goal.returns-in-More-clause-waits

@@ -13,14 +13,11 @@ pub loop-left-init : goal.loop-left-init
 loop-left-init g c =
     let reader = ap (λ (s : Connection). s.reader) c.requires.stream in
     let held = ap (λ (r : Held). r.held) reader in
-    let next = ap (λ k. k.next) c.requires.cookies in
-    let last = ap (λ k. k.last) c.requires.cookies in
     record {
       running = Running-start _ c.args.pipe _ _ _ c.requires.pipe held c.requires.stands c.requires.cookies c.requires.clock;
       may_feed = ap (λ (r : Held). r.may_feed) reader;
       whole = ap (λ (r : Held). r.is_broken) reader;
       none = subst (HasNoMessage SpellsRequest) (sym held) none_in_nothing;
-      cookies = (omega (arith, next, c.requires.pipe.some), omega (arith, last));
       reads = omega arith;
       writes = omega arith;
       floor = refl;
@@ -34,14 +31,14 @@ returns-in-End-clause-ran g c =
     let t = c.finish.ensures.finished.1 (ap (λ (r : Held). r.is_broken) reader ∙ c.loop-left.invariant.whole, ap (λ (r : Held). r.held) reader ∙ none) in
     let f = c.if-is_none.ensures in cc in
     stop-badly g.K.Keeper.can_count c.args.pipe (g.S.Source.told c.args.source.now) (g.S.Source.told c.loop-left.source) (g.S.Source.told c.take_piece.new.source) (g.T.Sink.taken c.args.sink.now) (g.T.Sink.taken c.loop-left.sink) (g.T.Sink.taken c.end_badly.new.sink)
-    (state_of c.loop-left.server (g.K.Keeper.told c.loop-left.server.shard) (g.K.Keeper.count c.loop-left.server.shard))
+    (state_of c.loop-left.server (g.K.Keeper.told c.loop-left.server.desk.keeper) (g.K.Keeper.count c.loop-left.server.desk.keeper))
     c.loop-left.left c.end_badly.result c.loop-left.invariant.running ended.1 ended.0 some c.loop-left.invariant.none c.loop-left-test.true c.end_badly.ensures.ends
 
 pub returns-in-NoMemory-clause-ran : goal.returns-in-NoMemory-clause-ran
 returns-in-NoMemory-clause-ran g c =
     let gave = c.in-NoMemory.ensures.no_memory refl in
     ended-unfed g.K.Keeper.can_count c.args.pipe (g.S.Source.told c.args.source.now) (g.S.Source.told c.loop-left.source) (g.S.Source.told c.take_piece.new.source) (g.T.Sink.taken c.args.sink.now) (g.T.Sink.taken c.loop-left.sink) gave.0
-    (state_of c.loop-left.server (g.K.Keeper.told c.loop-left.server.shard) (g.K.Keeper.count c.loop-left.server.shard))
+    (state_of c.loop-left.server (g.K.Keeper.told c.loop-left.server.desk.keeper) (g.K.Keeper.count c.loop-left.server.desk.keeper))
     c.loop-left.left c.loop-left.invariant.running gave.1
 
 pub loop-left-preserved : goal.loop-left-preserved
@@ -49,17 +46,16 @@ loop-left-preserved g c =
     let waits = c.in-More.ensures.waits refl in
     record {
       running = turn-on g.K.Keeper.can_count c.args.pipe (g.S.Source.told c.args.source.now) (g.S.Source.told c.loop-left.source) (g.S.Source.told c.take_piece.new.source) (g.T.Sink.taken c.args.sink.now) (g.T.Sink.taken c.loop-left.sink) (g.T.Sink.taken c.answer_held.new.sink)
-          (state_of c.loop-left.server (g.K.Keeper.told c.loop-left.server.shard) (g.K.Keeper.count c.loop-left.server.shard))
-          (state_of (record c.loop-left.server { stream = c.take_piece.new.stream }) (g.K.Keeper.told c.loop-left.server.shard) (g.K.Keeper.count c.loop-left.server.shard))
-          (state_of c.answer_held.new.server (g.K.Keeper.told c.answer_held.new.server.shard) (g.K.Keeper.count c.answer_held.new.server.shard))
+          (state_of c.loop-left.server (g.K.Keeper.told c.loop-left.server.desk.keeper) (g.K.Keeper.count c.loop-left.server.desk.keeper))
+          (state_of (record c.loop-left.server { stream = c.take_piece.new.stream }) (g.K.Keeper.told c.loop-left.server.desk.keeper) (g.K.Keeper.count c.loop-left.server.desk.keeper))
+          (state_of c.answer_held.new.server (g.K.Keeper.told c.answer_held.new.server.desk.keeper) (g.K.Keeper.count c.answer_held.new.server.desk.keeper))
           c.in-Fed.ensures.fed.2.0 c.loop-left.left (c.loop-left.left - c.in-Fed.count) c.loop-left.invariant.running
-          (ap (λ (h : List ℕ). record (state_of c.loop-left.server (g.K.Keeper.told c.loop-left.server.shard) (g.K.Keeper.count c.loop-left.server.shard)) { held = h }) (fed_is c.loop-left.server.stream c.take_piece.new.stream c.in-Fed.ensures.fed.2.0 c.in-Fed.ensures.fed.2.3 c.loop-left.invariant.whole))
+          (ap (λ (h : List ℕ). record (state_of c.loop-left.server (g.K.Keeper.told c.loop-left.server.desk.keeper) (g.K.Keeper.count c.loop-left.server.desk.keeper)) { held = h }) (fed_is c.loop-left.server.stream c.take_piece.new.stream c.in-Fed.ensures.fed.2.0 c.in-Fed.ensures.fed.2.3 c.loop-left.invariant.whole))
           c.in-Fed.ensures.fed.2.2 (omega (arith, c.in-Fed.ensures.fed.1, c.in-Fed.ensures.fed.2.1))
           (c.in-More.ensures.goes refl);
       may_feed = waits.1;
       whole = waits.0;
       none = waits.2;
-      cookies = c.answer_held.ensures.cookies;
       reads = omega (arith, c.loop-left.invariant.reads, c.take_piece.ensures.faults);
       writes = omega (arith, c.loop-left.invariant.writes, c.answer_held.ensures.faults);
       floor = c.answer_held.ensures.floor ∙ c.loop-left.invariant.floor;
@@ -69,11 +65,11 @@ pub returns-then-left-eq0-clause-ran : goal.returns-then-left-eq0-clause-ran
 returns-then-left-eq0-clause-ran g c =
     let broken = c.in-Broken.ensures.broken refl in
     turn-long g.K.Keeper.can_count c.args.pipe (g.S.Source.told c.args.source.now) (g.S.Source.told c.loop-left.source) (g.S.Source.told c.take_piece.new.source) (g.T.Sink.taken c.args.sink.now) (g.T.Sink.taken c.loop-left.sink) (g.T.Sink.taken c.answer_held.new.sink)
-    (state_of c.loop-left.server (g.K.Keeper.told c.loop-left.server.shard) (g.K.Keeper.count c.loop-left.server.shard))
-    (state_of (record c.loop-left.server { stream = c.take_piece.new.stream }) (g.K.Keeper.told c.loop-left.server.shard) (g.K.Keeper.count c.loop-left.server.shard))
-    (state_of c.answer_held.new.server (g.K.Keeper.told c.answer_held.new.server.shard) (g.K.Keeper.count c.answer_held.new.server.shard))
+    (state_of c.loop-left.server (g.K.Keeper.told c.loop-left.server.desk.keeper) (g.K.Keeper.count c.loop-left.server.desk.keeper))
+    (state_of (record c.loop-left.server { stream = c.take_piece.new.stream }) (g.K.Keeper.told c.loop-left.server.desk.keeper) (g.K.Keeper.count c.loop-left.server.desk.keeper))
+    (state_of c.answer_held.new.server (g.K.Keeper.told c.answer_held.new.server.desk.keeper) (g.K.Keeper.count c.answer_held.new.server.desk.keeper))
     c.in-Fed.ensures.fed.2.0 c.loop-left.left (c.loop-left.left - c.in-Fed.count) c.loop-left.invariant.running
-    (ap (λ (h : List ℕ). record (state_of c.loop-left.server (g.K.Keeper.told c.loop-left.server.shard) (g.K.Keeper.count c.loop-left.server.shard)) { held = h }) (fed_is c.loop-left.server.stream c.take_piece.new.stream c.in-Fed.ensures.fed.2.0 c.in-Fed.ensures.fed.2.3 c.loop-left.invariant.whole))
+    (ap (λ (h : List ℕ). record (state_of c.loop-left.server (g.K.Keeper.told c.loop-left.server.desk.keeper) (g.K.Keeper.count c.loop-left.server.desk.keeper)) { held = h }) (fed_is c.loop-left.server.stream c.take_piece.new.stream c.in-Fed.ensures.fed.2.0 c.in-Fed.ensures.fed.2.3 c.loop-left.invariant.whole))
     c.in-Fed.ensures.fed.2.2 (omega (arith, c.in-Fed.ensures.fed.1, c.in-Fed.ensures.fed.2.1))
     broken.0 broken.1 broken.2 c.if-left-eq0.true
 
@@ -81,33 +77,33 @@ pub returns-in-Broken-clause-ran : goal.returns-in-Broken-clause-ran
 returns-in-Broken-clause-ran g c =
     let broken = c.in-Broken.ensures.broken refl in
     turn-badly g.K.Keeper.can_count c.args.pipe (g.S.Source.told c.args.source.now) (g.S.Source.told c.loop-left.source) (g.S.Source.told c.take_piece.new.source) (g.T.Sink.taken c.args.sink.now) (g.T.Sink.taken c.loop-left.sink) (g.T.Sink.taken c.answer_held.new.sink)
-    (state_of c.loop-left.server (g.K.Keeper.told c.loop-left.server.shard) (g.K.Keeper.count c.loop-left.server.shard))
-    (state_of (record c.loop-left.server { stream = c.take_piece.new.stream }) (g.K.Keeper.told c.loop-left.server.shard) (g.K.Keeper.count c.loop-left.server.shard))
-    (state_of c.answer_held.new.server (g.K.Keeper.told c.answer_held.new.server.shard) (g.K.Keeper.count c.answer_held.new.server.shard))
+    (state_of c.loop-left.server (g.K.Keeper.told c.loop-left.server.desk.keeper) (g.K.Keeper.count c.loop-left.server.desk.keeper))
+    (state_of (record c.loop-left.server { stream = c.take_piece.new.stream }) (g.K.Keeper.told c.loop-left.server.desk.keeper) (g.K.Keeper.count c.loop-left.server.desk.keeper))
+    (state_of c.answer_held.new.server (g.K.Keeper.told c.answer_held.new.server.desk.keeper) (g.K.Keeper.count c.answer_held.new.server.desk.keeper))
     c.in-Fed.ensures.fed.2.0 c.loop-left.left (c.loop-left.left - c.in-Fed.count) c.loop-left.invariant.running
-    (ap (λ (h : List ℕ). record (state_of c.loop-left.server (g.K.Keeper.told c.loop-left.server.shard) (g.K.Keeper.count c.loop-left.server.shard)) { held = h }) (fed_is c.loop-left.server.stream c.take_piece.new.stream c.in-Fed.ensures.fed.2.0 c.in-Fed.ensures.fed.2.3 c.loop-left.invariant.whole))
+    (ap (λ (h : List ℕ). record (state_of c.loop-left.server (g.K.Keeper.told c.loop-left.server.desk.keeper) (g.K.Keeper.count c.loop-left.server.desk.keeper)) { held = h }) (fed_is c.loop-left.server.stream c.take_piece.new.stream c.in-Fed.ensures.fed.2.0 c.in-Fed.ensures.fed.2.3 c.loop-left.invariant.whole))
     c.in-Fed.ensures.fed.2.2 (omega (arith, c.in-Fed.ensures.fed.1, c.in-Fed.ensures.fed.2.1))
     broken.0 broken.1 broken.2 c.end_badly-in-Broken.result (g.T.Sink.taken c.end_badly-in-Broken.new.sink) (omega (arith, c.if-left-eq0.false)) c.end_badly-in-Broken.ensures.ends
 
 pub returns-in-NoMemory-answer_held-clause-ran : goal.returns-in-NoMemory-answer_held-clause-ran
 returns-in-NoMemory-answer_held-clause-ran g c =
     turn-no_memory g.K.Keeper.can_count c.args.pipe (g.S.Source.told c.args.source.now) (g.S.Source.told c.loop-left.source) (g.S.Source.told c.take_piece.new.source) (g.T.Sink.taken c.args.sink.now) (g.T.Sink.taken c.loop-left.sink) (g.T.Sink.taken c.answer_held.new.sink)
-    (state_of c.loop-left.server (g.K.Keeper.told c.loop-left.server.shard) (g.K.Keeper.count c.loop-left.server.shard))
-    (state_of (record c.loop-left.server { stream = c.take_piece.new.stream }) (g.K.Keeper.told c.loop-left.server.shard) (g.K.Keeper.count c.loop-left.server.shard))
-    (state_of c.answer_held.new.server (g.K.Keeper.told c.answer_held.new.server.shard) (g.K.Keeper.count c.answer_held.new.server.shard))
+    (state_of c.loop-left.server (g.K.Keeper.told c.loop-left.server.desk.keeper) (g.K.Keeper.count c.loop-left.server.desk.keeper))
+    (state_of (record c.loop-left.server { stream = c.take_piece.new.stream }) (g.K.Keeper.told c.loop-left.server.desk.keeper) (g.K.Keeper.count c.loop-left.server.desk.keeper))
+    (state_of c.answer_held.new.server (g.K.Keeper.told c.answer_held.new.server.desk.keeper) (g.K.Keeper.count c.answer_held.new.server.desk.keeper))
     c.in-Fed.ensures.fed.2.0 c.loop-left.left (c.loop-left.left - c.in-Fed.count) c.loop-left.invariant.running
-    (ap (λ (h : List ℕ). record (state_of c.loop-left.server (g.K.Keeper.told c.loop-left.server.shard) (g.K.Keeper.count c.loop-left.server.shard)) { held = h }) (fed_is c.loop-left.server.stream c.take_piece.new.stream c.in-Fed.ensures.fed.2.0 c.in-Fed.ensures.fed.2.3 c.loop-left.invariant.whole))
+    (ap (λ (h : List ℕ). record (state_of c.loop-left.server (g.K.Keeper.told c.loop-left.server.desk.keeper) (g.K.Keeper.count c.loop-left.server.desk.keeper)) { held = h }) (fed_is c.loop-left.server.stream c.take_piece.new.stream c.in-Fed.ensures.fed.2.0 c.in-Fed.ensures.fed.2.3 c.loop-left.invariant.whole))
     c.in-Fed.ensures.fed.2.2 (omega (arith, c.in-Fed.ensures.fed.1, c.in-Fed.ensures.fed.2.1))
     (c.in-NoMemory-answer_held.ensures.no_memory refl)
 
 pub returns-in-WriteFault-clause-ran : goal.returns-in-WriteFault-clause-ran
 returns-in-WriteFault-clause-ran g c =
     turn-write g.K.Keeper.can_count c.args.pipe (g.S.Source.told c.args.source.now) (g.S.Source.told c.loop-left.source) (g.S.Source.told c.take_piece.new.source) (g.T.Sink.taken c.args.sink.now) (g.T.Sink.taken c.loop-left.sink) (g.T.Sink.taken c.answer_held.new.sink)
-    (state_of c.loop-left.server (g.K.Keeper.told c.loop-left.server.shard) (g.K.Keeper.count c.loop-left.server.shard))
-    (state_of (record c.loop-left.server { stream = c.take_piece.new.stream }) (g.K.Keeper.told c.loop-left.server.shard) (g.K.Keeper.count c.loop-left.server.shard))
-    (state_of c.answer_held.new.server (g.K.Keeper.told c.answer_held.new.server.shard) (g.K.Keeper.count c.answer_held.new.server.shard))
+    (state_of c.loop-left.server (g.K.Keeper.told c.loop-left.server.desk.keeper) (g.K.Keeper.count c.loop-left.server.desk.keeper))
+    (state_of (record c.loop-left.server { stream = c.take_piece.new.stream }) (g.K.Keeper.told c.loop-left.server.desk.keeper) (g.K.Keeper.count c.loop-left.server.desk.keeper))
+    (state_of c.answer_held.new.server (g.K.Keeper.told c.answer_held.new.server.desk.keeper) (g.K.Keeper.count c.answer_held.new.server.desk.keeper))
     c.in-Fed.ensures.fed.2.0 c.loop-left.left (c.loop-left.left - c.in-Fed.count) c.loop-left.invariant.running
-    (ap (λ (h : List ℕ). record (state_of c.loop-left.server (g.K.Keeper.told c.loop-left.server.shard) (g.K.Keeper.count c.loop-left.server.shard)) { held = h }) (fed_is c.loop-left.server.stream c.take_piece.new.stream c.in-Fed.ensures.fed.2.0 c.in-Fed.ensures.fed.2.3 c.loop-left.invariant.whole))
+    (ap (λ (h : List ℕ). record (state_of c.loop-left.server (g.K.Keeper.told c.loop-left.server.desk.keeper) (g.K.Keeper.count c.loop-left.server.desk.keeper)) { held = h }) (fed_is c.loop-left.server.stream c.take_piece.new.stream c.in-Fed.ensures.fed.2.0 c.in-Fed.ensures.fed.2.3 c.loop-left.invariant.whole))
     c.in-Fed.ensures.fed.2.2 (omega (arith, c.in-Fed.ensures.fed.1, c.in-Fed.ensures.fed.2.1))
     (c.in-WriteFault.ensures.in_part refl)
 
@@ -117,18 +113,18 @@ returns-then-is_none-clause-ran g c =
     let reader = ap (λ (s : Connection). s.reader) ended.2 in
     let finished = c.finish.ensures.finished.0 c.if-is_none.ensures in
     stop-whole g.K.Keeper.can_count c.args.pipe (g.S.Source.told c.args.source.now) (g.S.Source.told c.loop-left.source) (g.S.Source.told c.take_piece.new.source) (g.T.Sink.taken c.args.sink.now) (g.T.Sink.taken c.loop-left.sink)
-    (state_of c.loop-left.server (g.K.Keeper.told c.loop-left.server.shard) (g.K.Keeper.count c.loop-left.server.shard))
+    (state_of c.loop-left.server (g.K.Keeper.told c.loop-left.server.desk.keeper) (g.K.Keeper.count c.loop-left.server.desk.keeper))
     c.loop-left.left c.loop-left.invariant.running ended.1 ended.0 (ap (λ (r : Held). r.held) (sym reader) ∙ finished.1) c.loop-left-test.true
 
 pub returns-in-ReadFault-clause-ran : goal.returns-in-ReadFault-clause-ran
 returns-in-ReadFault-clause-ran g c =
     let fault = c.in-ReadFault.ensures.fault refl in
     stop-read g.K.Keeper.can_count c.args.pipe (g.S.Source.told c.args.source.now) (g.S.Source.told c.loop-left.source) (g.S.Source.told c.take_piece.new.source) (g.T.Sink.taken c.args.sink.now) (g.T.Sink.taken c.loop-left.sink)
-    (state_of c.loop-left.server (g.K.Keeper.told c.loop-left.server.shard) (g.K.Keeper.count c.loop-left.server.shard))
+    (state_of c.loop-left.server (g.K.Keeper.told c.loop-left.server.desk.keeper) (g.K.Keeper.count c.loop-left.server.desk.keeper))
     c.loop-left.left c.loop-left.invariant.running fault.0 c.loop-left.invariant.none c.loop-left-test.true
 
 pub returns-clause-ran : goal.returns-clause-ran
 returns-clause-ran g c =
     ended-long g.K.Keeper.can_count c.args.pipe (g.S.Source.told c.args.source.now) (g.S.Source.told c.loop-left.source) (g.T.Sink.taken c.args.sink.now) (g.T.Sink.taken c.loop-left.sink)
-    (state_of c.loop-left.server (g.K.Keeper.told c.loop-left.server.shard) (g.K.Keeper.count c.loop-left.server.shard))
+    (state_of c.loop-left.server (g.K.Keeper.told c.loop-left.server.desk.keeper) (g.K.Keeper.count c.loop-left.server.desk.keeper))
     c.loop-left.left c.loop-left.invariant.running c.loop-left.invariant.none (omega (arith, c.loop-left-test.false))
