@@ -166,9 +166,9 @@ no_cookie text none = locked_only text (λ n a is. let h = is.fits in none n (de
 pub no_age : (text rest : List ℕ) (n : ℕ) → n ≤ 2 ^ 63 - 1 → text ≡ decimal n ++ 32 ∷ rest → ((a : ℕ) → ¬ IsNumber rest (2 ^ 62) a) → (r : Reply) → ¬ IsReply (codes "locked " ++ text) r
 no_age text rest n small e none =
     locked_only text (λ k a is.
-        let h = is.fits in
-        let cut = number_cut n k rest (decimal a) (omega arith) (omega arith) (sym e ∙ locked_text text k a is) in
-        none a (cut.1, h.1))
+    let h = is.fits in
+    let cut = number_cut n k rest (decimal a) (omega arith) (omega arith) (sym e ∙ locked_text text k a is) in
+    none a (cut.1, h.1))
 
 pub is_found : (text : List ℕ) (c : Content) → IsContent text c → IsReply (codes "found " ++ text) (Found c.body c.minutes c.cookie c.flag)
 is_found text c is = record {

@@ -181,7 +181,7 @@ stops_somewhere (inl (inl (words, rest, split, wrong))) =
     let a = length-append words (10 ∷ rest) in
     omega (arith, h, a)
 stops_somewhere (inl (inr long)) = let h = long.1 in omega arith
-stops_somewhere (inr cut) = elim cut.1 [ | inl some ↦ some refl | inr e ↦ cc e ]
+stops_somewhere (inr cut) = elim cut.1 [ inl some ↦ some refl | inr e ↦ cc e ]
 
 taken_parts : (place : ℕ) (list : List Entry) (rest : List ℕ) → journal_text place list ++ rest ≡ head_line place ++ (flat_map entry_line list ++ rest)
 taken_parts place list rest = append_assoc (head_line place) (flat_map entry_line list) rest

@@ -23,10 +23,10 @@ first_feed [] = inl (All-nil (λ b. b ≢ 10))
 first_feed (b ∷ bs) = elim (cases_eq b 10) [
   | inl feed ↦ inr ([], bs, record { joined = ap (λ x. x ∷ bs) feed; first = All-nil (λ x. x ≢ 10) })
   | inr other ↦ elim (first_feed bs) [
-      | inl none ↦ inl (All-cons (λ x. x ≢ 10) b bs other none)
-      | inr (words, rest, split) ↦
-          inr (b ∷ words, rest, record { joined = ap (λ t. b ∷ t) split.joined; first = All-cons (λ x. x ≢ 10) b words other split.first })
-    ]
+    | inl none ↦ inl (All-cons (λ x. x ≢ 10) b bs other none)
+    | inr (words, rest, split) ↦
+        inr (b ∷ words, rest, record { joined = ap (λ t. b ∷ t) split.joined; first = All-cons (λ x. x ≢ 10) b words other split.first })
+  ]
 ]
 
 split_more : (text more words rest : List ℕ) → SplitsAt 10 text words rest → SplitsAt 10 (text ++ more) words (rest ++ more)
@@ -43,11 +43,16 @@ long_more is_begun text more long = elim (first_feed more) [
         joined = ap (λ t. text ++ t) split.joined ∙ sym (append_assoc text words (10 ∷ rest));
         first = All-append (λ b. b ≢ 10) text words long.0 split.first;
       } in
-      inl (text ++ words, rest, whole, λ is.
-          let short = line_short is_begun (text ++ words) is in
-          let l = length-append text words in
-          let h = long.1 in
-          omega (arith, short, l, h))
+      inl (
+        text ++ words,
+        rest,
+        whole,
+        λ is.
+            let short = line_short is_begun (text ++ words) is in
+            let l = length-append text words in
+            let h = long.1 in
+            omega (arith, short, l, h),
+      )
 ]
 
 pub no_line_more : (is_begun : Bool) (text more : List ℕ) → IsNoLine is_begun text → IsNoLine is_begun (text ++ more)
