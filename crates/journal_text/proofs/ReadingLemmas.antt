@@ -1,7 +1,7 @@
 -- What a reader has read of a text goes on by each call.
-use Rattle.std.proofs.Common.{◌≡◌, ◌≢◌, ℕ, ◌+◌, ◌-◌, ◌<◌, ◌≤◌, Bool, true, false, List, [], ◌∷◌, ◌++◌, length, take, drop, Option, Some, None, is_some, Result, Ok, Err, OnOk, refl, sym, ap, ◌∙◌, arith, append_assoc, append-nil, length-append, length-take, subst, inl, inr, ◌⊎◌}
+use Rattle.std.proofs.Common.{◌≡◌, ◌≢◌, ℕ, ◌+◌, ◌<◌, Bool, true, false, List, [], ◌∷◌, ◌++◌, length, take, drop, Some, None, Result, Ok, Err, OnOk, refl, sym, ap, ◌∙◌, arith, append_assoc, append-nil, length-append, length-take, subst, inl, inr, ◌⊎◌}
 use Rattle.std.specs.Prelude.{codes, MatchBool, if◌then◌else◌}
-use Rattle.std.specs.List.{All, AllByRecursion, flat_map}
+use Rattle.std.specs.List.{AllByRecursion}
 use Rattle.std.proofs.lemmas.Bool.{cases_eq}
 use Rattle.std.proofs.lemmas.List.{flat_map_more}
 use Rattle.std.proofs.lemmas.List.Elements.{All-append, All-cons, All-nil}
@@ -9,9 +9,9 @@ use Rattle.session_machine.specs.declared.entry.Entry.{Entry}
 use Rattle.plain_words.specs.Words.{HasNo, SplitsAt}
 use Rattle.journal_text.specs.declared.reader.JournalNext.{JournalNext}
 use Rattle.journal_text.specs.declared.reader.JournalNext.TheVariants as nexts
-use Rattle.journal_text.specs.JournalText.{head_words, entry_words, line, head_line, entry_line, journal_text, PlaceFits, EntryFits, most_line}
+use Rattle.journal_text.specs.JournalText.{head_words, entry_words, line, head_line, entry_line, journal_text, PlaceFits, EntryFits}
 use Rattle.journal_text.specs.Next.{taken_with, IfNotAJournal}
-use Rattle.journal_text.specs.Reading.{IsLine, BeginsWrong, IsTooLong, IsNoLine, Taken, taken_text, TakenFits, StopsAt, Reading, fed, broken, HoldsRest, HasRead}
+use Rattle.journal_text.specs.Reading.{IsTooLong, IsNoLine, Taken, taken_text, StopsAt, Reading, fed, broken, HasRead}
 use Rattle.journal_text.specs.Spelled.{IsEntry}
 use Rattle.journal_text.proofs.JournalLemmas.{line_then, line_short}
 

@@ -1,4 +1,4 @@
-use Rattle.std.proofs.Common.{◌≡◌, ◌≤◌, ◌++◌, ◌-◌, List, ℕ, length, drop, sym, ap, ◌∙◌, arith, subst, length-drop, length-append}
+use Rattle.std.proofs.Common.{◌≡◌, ◌++◌, List, ℕ, length, drop, sym, ap, ◌∙◌, arith, subst, length-drop, length-append}
 use Rattle.std.specs.List.{slice_range}
 use Rattle.plain_words.specs.Words.{HasNo}
 use Rattle.journal_text.proofs.HeldLemmas.{sought_compacted}
