@@ -1,0 +1,6 @@
+pub mod Endings
+pub mod Lines
+pub mod Names
+pub mod Places
+pub mod Standing
+pub mod World
