@@ -1,14 +1,15 @@
 -- Where a name stands among the pages of a script.
-use Rattle.std.specs.Prelude.{zero, suc, ◌≡◌, ◌≢◌, ℕ, List, [], ◌∷◌, ⊤}
+use Rattle.std.specs.Prelude.{◌≡◌, ◌≢◌, ℕ, ◌<◌, List, length, slice_index_or}
+use Rattle.std.specs.List.{AllByRecursion}
 use Rattle.page_script.specs.declared.page.ScriptPage.{ScriptPage}
 
 -- no page has the name
 abbrev pub IsUnused : List ScriptPage → List ℕ → Type 0
-IsUnused [] name = ⊤
-IsUnused (page ∷ pages) name = (page.name ≢ name) × IsUnused pages name
+IsUnused pages name = AllByRecursion (λ page. page.name ≢ name) pages
 
--- the n-th page has the name
-abbrev pub IsPlaceOf : List ScriptPage → List ℕ → ℕ → Type 0
-IsPlaceOf [] name n = ⊥
-IsPlaceOf (page ∷ pages) name zero = page.name ≡ name
-IsPlaceOf (page ∷ pages) name (suc n) = IsPlaceOf pages name n
+-- The page at the place has the name.
+pub record IsPlaceOf (pages : List ScriptPage) (name : List ℕ) (place : ℕ) : Type 0 where
+  pub inside : place < length pages
+  pub page : ScriptPage
+  pub there : page ≡ slice_index_or pages place page
+  pub named : page.name ≡ name
