@@ -1,0 +1,10 @@
+//! Scripts of pages: their lines, read from a text.
+#![tactic(auto)]
+
+mod line;
+mod name;
+mod reading;
+
+pub use line::{Line, MOST_LINE, PageLine};
+pub use name::Name;
+pub use reading::read_line;
