@@ -3,6 +3,8 @@
 
 mod line;
 mod name;
+mod page;
+mod parts;
 mod reading;
 
 pub use line::{Line, MOST_LINE, PageLine};

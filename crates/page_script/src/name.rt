@@ -1,9 +1,9 @@
 //! The names of pages.
-ghost use Rattle.std.specs.Prelude.{◌≡◌, nat_eq};
+ghost use Rattle.std.specs.Prelude.{◌≡◌, ◌↔◌, IsTrue, All, nat_eq};
 ghost use Rattle.std.specs.Option.{SomeIff};
 ghost use Rattle.std.specs.Cmp.Lexicographic.{pointwise, nat_list_eq_equiv};
 ghost use Rattle.std.specs.Cmp.{partial_equiv_from_equiv};
-ghost use Rattle.page_script.specs.Names.{IsName};
+ghost use Rattle.page_script.specs.Names.{IsLetter, IsName};
 
 use std::marker::Model;
 
@@ -31,13 +31,19 @@ impl Model for Name {
     ghost inverse_ok = { λ n h i. record { letters = h.rest i; len = h.len_is i } };
 }
 
+fn all_lower(text: &[u8]) -> bool
+    ensures { IsTrue result ↔ All IsLetter text.now }
+{
+    text.iter().all(|letter| b'a' <= *letter && *letter <= b'z')
+}
+
 impl Name {
     /// The name that the text is: `None` exactly where it is not 1 to 16 letters from `a` to `z`.
     pub fn read(text: &[u8]) -> Option<Name>
         ensures { SomeIff result (IsName text.now) text.now }
     {
         let len = text.len();
-        if len == 0 || len > MOST_LETTERS || !text.iter().all(u8::is_ascii_lowercase) {
+        if len == 0 || len > MOST_LETTERS || !all_lower(text) {
             return None;
         }
         let mut letters = [0; 16];
