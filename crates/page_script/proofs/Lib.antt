@@ -1,1 +1,5 @@
 pub mod NameLemmas
+pub mod CutLemmas
+pub mod LineLemmas
+pub mod PageLemmas
+pub mod ReadingLemmas

@@ -1,5 +1,5 @@
 -- The lines of a script: how each is spelled, and the ranges of its lengths and numbers.
-use Rattle.std.specs.Prelude.{◌≡◌, ℕ, ◌<◌, ◌≤◌, ◌^◌, List, length, codes, decimal, ⊤}
+use Rattle.std.specs.Prelude.{◌≡◌, ℕ, ◌≤◌, ◌^◌, List, length, codes, decimal, ⊤}
 use Rattle.asp_messages.specs.PlainSpelling.{◌then◌, bytes_word}
 use Rattle.asp_messages.specs.Ranges.{KeyFits}
 use Rattle.plain_words.specs.Words.{AreBytes}

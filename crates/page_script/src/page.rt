@@ -1,7 +1,8 @@
 //! A `page` line behind its first word.
-ghost use Rattle.std.specs.Prelude.{◌≡◌, ℕ, List, IfOk, MatchOption};
+ghost use Rattle.std.specs.Prelude.{◌≡◌, ◌≢◌, ℕ, List, IfOk, IfSome, IfNone, MatchOption};
 ghost use Rattle.plain_words.specs.Words.{Reads};
 ghost use Rattle.visit_core.specs.declared.terms.Need.{Need};
+ghost use Rattle.page_script.specs.Lines.{ending_words};
 ghost use Rattle.page_script.specs.Parts.{IsEnding, IsKey, IsPage, IsPageHead, IsSave};
 
 use crate::parts::{behind, read_need, read_number_then};
@@ -70,16 +71,27 @@ fn read_save(alloc: Global, text: &[u8]) -> Result<Option<(u64, Bytes)>, NoMemor
     }
 }
 
+// An ending that saves nothing.
+fn read_bare_ending(text: &[u8]) -> Option<Ending>
+    ensures some { IfSome result (IsEnding text.now) }
+    ensures none { IfNone result ((text.now ≢ ending_words Ending.Keep) × (text.now ≢ ending_words Ending.Abandon)) }
+{
+    match text {
+        b"keep" => Some(Ending::Keep),
+        b"abandon" => Some(Ending::Abandon),
+        _ => None,
+    }
+}
+
 fn read_ending(alloc: Global, text: &[u8]) -> Result<Option<Ending>, NoMemory>
     ensures { IfOk result (Reads (IsEnding text.now)) }
 {
-    match text {
-        b"keep" => Ok(Some(Ending::Keep)),
-        b"abandon" => Ok(Some(Ending::Abandon)),
-        _ => match read_save(alloc, text)? {
-            Some((minutes, body)) => Ok(Some(Ending::Save { body, minutes })),
-            None => Ok(None),
-        },
+    if let Some(ending) = read_bare_ending(text) {
+        return Ok(Some(ending));
+    }
+    match read_save(alloc, text)? {
+        Some((minutes, body)) => Ok(Some(Ending::Save { body, minutes })),
+        None => Ok(None),
     }
 }
 

@@ -61,11 +61,11 @@ pub fn read_line(alloc: Global, text: &[u8]) -> Result<Option<Line>, NoMemory>
             None => None,
         });
     }
-    let Some(words) = behind(text, b"step ") else {
-        return Ok(None);
-    };
-    Ok(match read_step(words) {
-        Some((moment, name)) => Some(Line::Step { moment, name }),
-        None => None,
-    })
+    if let Some(words) = behind(text, b"step ") {
+        return Ok(match read_step(words) {
+            Some((moment, name)) => Some(Line::Step { moment, name }),
+            None => None,
+        });
+    }
+    Ok(None)
 }

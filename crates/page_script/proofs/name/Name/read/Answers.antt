@@ -1,4 +1,4 @@
-use Rattle.std.proofs.Common.{◌≡◌, ◌<◌, length, ◌++◌, drop, arith, sym, subst}
+use Rattle.std.proofs.Common.{length, ◌++◌, drop, arith, sym, subst}
 use Rattle.std.specs.Prelude.{replicate}
 use Rattle.page_script.specs.Names.{IsName, HoldsName}
 use Rattle.page_script.proofs.NameLemmas.{HoldsName-front}
