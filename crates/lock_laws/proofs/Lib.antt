@@ -3,4 +3,4 @@ pub mod WordsLemmas
 pub mod LegalLemmas
 pub mod LawLemmas
 pub mod Examples
-mod WayLemmas
+pub mod WayLemmas

@@ -1,2 +1,7 @@
-pub mod DeskLemmas
+pub mod NameLemmas
+pub mod CutLemmas
+pub mod LineLemmas
 pub mod PageLemmas
+pub mod ReadingLemmas
+pub mod DeskLemmas
+pub mod StepLemmas

@@ -1,230 +1,164 @@
--- What a step adds to a page.
-use Rattle.std.proofs.Common.{zero, suc, ◌≡◌, ◌≢◌, ℕ, ◌+◌, ◌<◌, ◌≤◌, Bool, true, false, cond, List, [], ◌∷◌, ◌++◌, length, take, Some, None, Option, Ok, Err, Result, refl, sym, ap, ◌∙◌, arith, subst, inl, inr, append_assoc, append-nil}
-use Rattle.std.specs.Prelude.{◌==◌, ◌||◌, is_ok, OnOk, OnErr, map, filter, codes, decimal, reverse, ⊤}
-use Rattle.std.specs.List.{AllByRecursion}
-use Rattle.std.proofs.lemmas.Bool.{eq-eqb}
-use Rattle.std.proofs.lemmas.List.{map-append, reverse-append}
-use Rattle.std.proofs.lemmas.List.Elements.{filter-append}
-use Rattle.asp_messages.specs.declared.request.Request.{Request}
-use Rattle.asp_messages.specs.declared.request.Ask.{Ask}
-use Rattle.asp_messages.specs.declared.reply.Reply.{Reply as ReplyValue}
-use Rattle.asp_messages.specs.declared.reply.Reply.TheVariants as replies
-use Rattle.asp_messages.specs.PlainSpelling.{◌then◌, ask_spelling, reply_spelling}
-use Rattle.asp_messages.specs.Ranges.{ReplyFits}
+-- The words of a `page` line.
+use Rattle.std.proofs.Common.{◌≡◌, ◌≢◌, ℕ, List, ◌∷◌, ◌++◌, length, drop, get_or, refl, sym, ap, ◌∙◌, arith, lit<}
+use Rattle.std.specs.Prelude.{codes, decimal}
+use Rattle.asp_messages.specs.PlainSpelling.{bytes_word}
+use Rattle.plain_words.specs.Words.{AreBytes, IsByteString, SplitsAt}
+use Rattle.plain_words.proofs.ByteStringLemmas.{string_injective}
+use Rattle.plain_words.proofs.SplitLemmas.{split_same}
 use Rattle.visit_core.specs.declared.act.Ending.{Ending}
-use Rattle.visit_core.specs.declared.act.Heard.{Heard}
-use Rattle.visit_core.specs.declared.act.Heard.TheVariants.{Reply, Strange}
-use Rattle.visit_core.specs.Acts.{Action, send, wait_until, run, over}
-use Rattle.visit_core.specs.Rule.{Event, heard, ended, lost, act_of, act_after, after_answer, after_end, after_loss, at_end, ending_ask, own_cookie, locked_answers, has_ended}
-use Rattle.visit_core.specs.Stages.{HasPast}
-use Rattle.visit_core.specs.Terms.{Terms}
-use Rattle.page_script.specs.declared.page.ScriptPage.{ScriptPage}
-use Rattle.page_script.specs.World.{Page, Turn, event_of, Acts, turn_words, run_words, with_events, turns_of, is_heard}
-use Rattle.page_script.specs.Standing.{DeskState, DeskStands, turn_at, PageStands, Steps, EachSteps, EachMayStep}
+use Rattle.visit_core.specs.declared.act.Ending.TheVariants.{Save, Keep, Abandon}
+use Rattle.visit_core.specs.declared.terms.Need.{Need}
+use Rattle.visit_core.specs.declared.terms.Need.TheVariants.{Exclusive, ReadOnly, Off}
+use Rattle.page_script.specs.declared.line.PageLine.{PageLine}
+use Rattle.page_script.specs.Lines.{ending_words, need_word}
+use Rattle.page_script.specs.Parts.{IsEnding, IsKey, IsNumberThen, IsPage, IsPageHead, IsSave}
+use Rattle.page_script.proofs.CutLemmas.{bytes_no_space, four_words, name_no_space, need_no_space, one_number_then, two_words}
 
--- ---- results
+-- ---- keys
 
-pub on_ok : {A E : Type 0} {P Q : Type 0} (r : Result A E) → (P → Q) → OnOk r P → OnOk r Q
-on_ok (Ok a) f p = f p
-on_ok (Err e) f p = tt
+bytes_same : (text a b : List ℕ) → AreBytes a → AreBytes b → text ≡ bytes_word a → text ≡ bytes_word b → a ≡ b
+bytes_same text a b is_a is_b ea eb = string_injective a b is_a is_b (ap (drop 1) (sym ea ∙ eb))
 
-pub on_err : {A E : Type 0} {P : Type 0} (r : Result A E) → P → OnErr r P
-on_err (Ok a) p = tt
-on_err (Err e) p = p
+-- a key that was read is no key where it is empty
+pub empty_key : (word bytes : List ℕ) (most : ℕ) → IsByteString word most bytes → length bytes ≡ 0 → (key : List ℕ) → ¬ IsKey word key
+empty_key word bytes most read empty key is =
+    let same = ap length (bytes_same word bytes key read.are_bytes is.bytes read.spelled is.spelled) in
+    let some = is.fits.0 in
+    omega (arith, same, empty, some)
 
--- what was appended stays where nothing failed
-pub ok-undone : {A E : Type 0} (written result : Result A E) (new printed : List ℕ) (len : ℕ) (P Q : Type 0) → result ≡ written → new ≡ cond (is_ok written) printed (take len printed)
-    → (new ≡ printed → P → Q) → OnOk written P → OnOk result Q
-ok-undone (Ok a) result new printed len P Q is items f p = subst (λ r. OnOk r Q) (sym is) (f items p)
-ok-undone (Err e) result new printed len P Q is items f p = subst (λ r. OnOk r Q) (sym is) tt
+-- ---- what is saved
 
--- ---- what a past holds
-
-has_ended-append : (xs ys : List Event) → has_ended (xs ++ ys) ≡ (has_ended xs || has_ended ys)
-has_ended-append [] ys = refl
-has_ended-append (heard t request answer ∷ xs) ys = has_ended-append xs ys
-has_ended-append (ended ending ∷ xs) ys = refl
-has_ended-append (lost ∷ xs) ys = has_ended-append xs ys
-
-or-swap : (a b : Bool) → (a || b) ≡ (b || a)
-or-swap true true = refl
-or-swap true false = refl
-or-swap false true = refl
-or-swap false false = refl
-
-has_ended-push : (past : List Event) (event : Event) → has_ended (past ++ event ∷ []) ≡ (has_ended (event ∷ []) || has_ended past)
-has_ended-push past event = has_ended-append past (event ∷ []) ∙ or-swap (has_ended past) (has_ended (event ∷ []))
-
-has_ended-cons : (event : Event) (past : List Event) → has_ended (event ∷ past) ≡ (has_ended (event ∷ []) || has_ended past)
-has_ended-cons event past = has_ended-append (event ∷ []) past
-
-has_ended-reverse : (past : List Event) → has_ended (reverse past) ≡ has_ended past
-has_ended-reverse [] = refl
-has_ended-reverse (event ∷ past) =
-    ap has_ended (reverse-append (event ∷ []) past) ∙ has_ended-push (reverse past) event ∙ ap (λ b. has_ended (event ∷ []) || b) (has_ended-reverse past)
-    ∙ sym (has_ended-cons event past)
-
--- ---- a page runs before its end
-
-end-no_run : (answer : Heard) (content : Option (List ℕ)) (first : Bool) → after_end answer ≢ run content first
-end-no_run (Reply replies.Done) content first = λ e. cc
-end-no_run (Reply replies.Missing) content first = λ e. cc
-end-no_run (Reply (replies.Locked cookie age)) content first = λ e. cc
-end-no_run (Reply (replies.Found body minutes cookie mark)) content first = λ e. cc
-end-no_run (Reply replies.Bad) content first = λ e. cc
-end-no_run (Reply replies.KeeperFault) content first = λ e. cc
-end-no_run (Reply replies.NoMemory) content first = λ e. cc
-end-no_run (Reply replies.CookiesOut) content first = λ e. cc
-end-no_run (Reply replies.PlacesOut) content first = λ e. cc
-end-no_run (Strange status) content first = λ e. cc
-
-last-no_run : (terms : Terms) (ask : Option Ask) (content : Option (List ℕ)) (first : Bool) → at_end terms ask ≢ run content first
-last-no_run terms None content first = λ e. cc
-last-no_run terms (Some ask) content first = λ e. cc
-
-loss-no_run : (action : Action) (content : Option (List ℕ)) (first : Bool) → after_loss action ≢ run content first
-loss-no_run (send request) content first = λ e. cc
-loss-no_run (wait_until moment) content first = λ e. cc
-loss-no_run (run body mark) content first = λ e. cc
-loss-no_run (over outcome) content first = λ e. cc
-
-heard-run : (b : Bool) (answer : Heard) (action : Action) (content : Option (List ℕ)) (first : Bool) → cond b (after_end answer) action ≡ run content first → b ≡ false
-heard-run true answer action content first is = absurd (end-no_run answer content first is)
-heard-run false answer action content first is = refl
-
-after-run : (terms : Terms) (past : List Event) (t : ℕ) (content : Option (List ℕ)) (first : Bool) → act_after terms past t ≡ run content first → has_ended past ≡ false
-after-run terms [] t content first is = refl
-after-run terms (heard u request answer ∷ past) t content first is = heard-run (has_ended past) answer _ content first is
-after-run terms (ended ending ∷ past) t content first is = absurd (last-no_run terms (ending_ask terms.need (own_cookie past) ending) content first is)
-after-run terms (lost ∷ past) t content first is = absurd (loss-no_run (act_after terms past t) content first is)
-
-pub runs-not_ended : (terms : Terms) (past : List Event) (t : ℕ) (content : Option (List ℕ)) (first : Bool) → act_of terms past t ≡ run content first → has_ended past ≡ false
-runs-not_ended terms past t content first is = sym (has_ended-reverse past) ∙ after-run terms (reverse past) t content first is
-
--- ---- the turns of a page
-
-pub turns_of-own : (number : ℕ) (turns : List Turn) (turn : Turn) → turn.page ≡ number → turns_of number (turns ++ turn ∷ []) ≡ turns_of number turns ++ turn ∷ []
-turns_of-own number turns turn own =
-    filter-append (λ (other : Turn). other.page == number) turns (turn ∷ [])
-    ∙ ap (λ b. turns_of number turns ++ cond b (turn ∷ []) []) (eq-eqb turn.page number own)
-
--- ---- steps
-
-module _ (CanCount : ℕ → Type 0) (t : ℕ) (held : ScriptPage)
-  where
-    -- what is printed may be said in other words
-    pub EachSteps-prints : (held' : ScriptPage) (desk desk' : DeskState) (P Q : List ℕ → Type 0) → ((words : List ℕ) → P words → Q words)
-        → EachSteps CanCount t held held' desk desk' P → EachSteps CanCount t held held' desk desk' Q
-    EachSteps-prints held' desk desk' P Q more each number turns page stands desk_stands =
-        let step = each number turns page stands desk_stands in record {
-          events = step.events;
-          asked = step.asked;
-          words = step.words;
-          acts = step.acts;
-          page_stands = step.page_stands;
-          desk_stands = step.desk_stands;
-          prints = more step.words step.prints;
-        }
-
-    -- a step that changes nothing
-    pub quiet : (desk : DeskState) (action : Action) (words : List ℕ) (Prints : List ℕ → Type 0)
-        → ((past : List Event) → HasPast held.visit past → action ≡ act_of held.visit.terms past t)
-        → ((number : ℕ) (ending : Ending) (turns : List Turn) → Acts action t number ending turns [] [] words) → Prints words
-        → EachSteps CanCount t held held desk desk Prints
-    quiet desk action words Prints act acts prints number turns page stands desk_stands = record {
-      events = [];
-      asked = [];
-      words = words;
-      acts =
-          subst (λ a. Acts a t number page.ending turns [] [] words) (act page.past stands.past ∙ ap (λ terms. act_of terms page.past t) stands.terms)
-          (acts number page.ending turns);
-      page_stands =
-          subst (λ p. PageStands (turns ++ []) number held p) (ap (λ past. let p : Page = record page { past = past } in p) (sym (append-nil page.past)))
-          (subst (λ ts. PageStands ts number held page) (sym (append-nil turns)) stands);
-      desk_stands = subst (DeskStands CanCount desk) (sym (append-nil turns)) desk_stands;
-      prints = prints;
-    }
-
-    -- a request is sent, and its reply is heard
-    pub sent : (held' : ScriptPage) (desk desk' : DeskState) (request : Request) (reply : ReplyValue) (Prints : List ℕ → Type 0)
-        → held'.visit.terms ≡ held.visit.terms
-        → ((past : List Event) → HasPast held.visit past → act_of held.visit.terms past t ≡ send request)
-        → ((past : List Event) (sent : Request) → HasPast held.visit past → act_of held.visit.terms past t ≡ send sent → HasPast held'.visit (past ++ heard t sent (Reply reply) ∷ []))
-        → held'.name ≡ held.name → held'.ending ≡ held.ending → ReplyFits reply
-        → ((number : ℕ) (turns : List Turn) → DeskStands CanCount desk turns → DeskStands CanCount desk' (turns ++ turn_at number t request turns reply desk'.faults ∷ []))
-        → Prints ((ask_spelling request.ask ++ codes " : ") ++ reply_spelling reply)
-        → EachSteps CanCount t held held' desk desk' Prints
-    sent held' desk desk' request reply Prints terms act hears name ending fits answers prints number turns page stands desk_stands = record {
-      events = event_of turn ∷ [];
-      asked = turn ∷ [];
-      words = turn_words turn;
-      acts =
-          subst (λ a. Acts a t number page.ending turns (event_of turn ∷ []) (turn ∷ []) (turn_words turn)) (sym (act page.past stands.past) ∙ ap (λ terms. act_of terms page.past t) stands.terms)
-          (turn, record { page = refl; moment = refl; request = refl; drawn = refl; fits = fits }, refl, refl, refl);
-      page_stands = record {
-        name = name ∙ stands.name;
-        terms = terms ∙ stands.terms;
-        past = hears page.past request stands.past (act page.past stands.past);
-        ending = ending ∙ stands.ending ∙ ap (λ b. cond b None (Some page.ending)) (sym (has_ended-push page.past (event_of turn)));
-        own =
-            filter-append is_heard page.past (event_of turn ∷ []) ∙ ap (λ events. events ++ event_of turn ∷ []) stands.own
-            ∙ sym (map-append event_of (turns_of number turns) (turn ∷ [])) ∙ ap (map event_of) (sym (turns_of-own number turns turn refl));
-      };
-      desk_stands = answers number turns desk_stands;
-      prints = prints;
-    }
-      where
-        turn : Turn
-        turn = turn_at number t request turns reply desk'.faults
-
-    -- a page runs, and its visit is told how it ends
-    pub ran : (held' : ScriptPage) (desk : DeskState) (content : Option (List ℕ)) (first : Bool) (Prints : List ℕ → Type 0)
-        → ((past : List Event) → HasPast held.visit past → run content first ≡ act_of held.visit.terms past t)
-        → ((number : ℕ) (turns : List Turn) (page : Page) (body : Option (List ℕ)) (mark : Bool) (u : ℕ) → PageStands turns number held page
-            → act_of page.terms page.past u ≡ run body mark → PageStands turns number held' (with_events page (ended page.ending ∷ [])))
-        → Prints (run_words content first)
-        → EachSteps CanCount t held held' desk desk Prints
-    ran held' desk content first Prints act ends prints number turns page stands desk_stands =
-        let runs : act_of page.terms page.past t ≡ run content first = sym (act page.past stands.past ∙ ap (λ terms. act_of terms page.past t) stands.terms) in record {
-          events = ended page.ending ∷ [];
-          asked = [];
-          words = run_words content first;
-          acts = subst (λ a. Acts a t number page.ending turns (ended page.ending ∷ []) [] (run_words content first)) (sym runs) (refl, refl, refl);
-          page_stands =
-              subst (λ ts. PageStands ts number held' (with_events page (ended page.ending ∷ []))) (sym (append-nil turns)) (ends number turns page content first t stands runs);
-          desk_stands = subst (DeskStands CanCount desk) (sym (append-nil turns)) desk_stands;
-          prints = prints;
-        }
-
--- the ending that is kept until the visit is told of it
-pub kept_ending : (held : ScriptPage) (turns : List Turn) (number : ℕ) (page : Page) (content : Option (List ℕ)) (first : Bool) (t : ℕ) → PageStands turns number held page
-    → act_of page.terms page.past t ≡ run content first → held.ending ≡ Some page.ending
-kept_ending held turns number page content first t stands runs =
-    stands.ending ∙ ap (λ b. cond b None (Some page.ending)) (runs-not_ended page.terms page.past t content first runs)
-
-pub finished : (held held' : ScriptPage) (ending : Ending) (turns : List Turn) (number : ℕ) (page : Page) (content : Option (List ℕ)) (first : Bool) (t : ℕ)
-    → PageStands turns number held page → act_of page.terms page.past t ≡ run content first → held.ending ≡ Some ending → held'.ending ≡ None → held'.name ≡ held.name
-    → held'.visit.terms ≡ held.visit.terms → ((past : List Event) → HasPast held.visit past → HasPast held'.visit (past ++ ended ending ∷ []))
-    → PageStands turns number held' (with_events page (ended page.ending ∷ []))
-finished held held' ending turns number page content first t stands runs was is name terms ends = record {
-  name = name ∙ stands.name;
-  terms = terms ∙ stands.terms;
-  past = subst (λ (e : Ending). HasPast held'.visit (page.past ++ ended e ∷ [])) same (ends page.past stands.past);
-  ending = is ∙ ap (λ b. cond b None (Some page.ending)) (sym (has_ended-push page.past (ended page.ending)));
-  own = filter-append is_heard page.past (ended page.ending ∷ []) ∙ append-nil (filter is_heard page.past) ∙ stands.own;
+-- the words behind `save`
+pub save_words : (text words : List ℕ) (saved : ℕ × List ℕ) → text ≡ codes "save " ++ words → IsSave text saved
+    → IsNumberThen words 525600 saved.0 (bytes_word saved.1)
+save_words text words saved front is = record {
+  spelled = ap (drop 5) (sym front ∙ is.spelled) ∙ two_words (decimal saved.0) (bytes_word saved.1);
+  small = is.minutes.1;
 }
-  where
-    same : ending ≡ page.ending
-    same = let both : Some ending ≡ Some page.ending = sym was ∙ kept_ending held turns number page content first t stands runs in cc
 
--- ---- the printed line
+pub save_parts : (text words body : List ℕ) (minutes : ℕ) (saved : ℕ × List ℕ) → text ≡ codes "save " ++ words → IsNumberThen words 525600 minutes body
+    → IsSave text saved → (minutes ≡ saved.0) × IsByteString body 4194304 saved.1
+save_parts text words body minutes saved front read is =
+    let same = one_number_then words 525600 minutes saved.0 body (bytes_word saved.1) (lit< tt) read (save_words text words saved front is) in
+    (same.0, record { spelled = same.1; short = is.body; are_bytes = is.bytes })
 
-pub line-joined : (out start printed head words : List ℕ) → start ≡ out ++ (head ++ codes " ") → printed ≡ start ++ (words ++ 10 ∷ []) → printed ≡ out ++ ((head ++ codes " " ++ words) ++ 10 ∷ [])
-line-joined out start printed head words is more =
-    more ∙ ap (λ s. s ++ (words ++ 10 ∷ [])) is ∙ append_assoc out (head ++ codes " ") (words ++ 10 ∷ [])
-    ∙ ap (λ s. out ++ s) (sym (append_assoc (head ++ codes " ") words (10 ∷ [])))
+-- no minutes are no ending
+pub no_minutes : (text words body : List ℕ) (minutes : ℕ) → text ≡ codes "save " ++ words → IsNumberThen words 525600 minutes body → minutes ≡ 0
+    → (saved : ℕ × List ℕ) → ¬ IsSave text saved
+no_minutes text words body minutes front read zero saved is =
+    let same = (save_parts text words body minutes saved front read is).0 in
+    let some = is.minutes.0 in
+    omega (arith, same, zero, some)
 
-pub turn-joined : (out start printed ask reply : List ℕ) → start ≡ out ++ (ask ++ codes " : ") → printed ≡ start ++ (reply ++ 10 ∷ []) → printed ≡ out ++ (((ask ++ codes " : ") ++ reply) ++ 10 ∷ [])
-turn-joined out start printed ask reply is more =
-    more ∙ ap (λ s. s ++ (reply ++ 10 ∷ [])) is ∙ append_assoc out (ask ++ codes " : ") (reply ++ 10 ∷ [])
-    ∙ ap (λ s. out ++ s) (sym (append_assoc (ask ++ codes " : ") reply (10 ∷ [])))
+-- ---- endings
+
+-- an ending that is none of the bare ones saves
+pub no_ending : (text : List ℕ) → text ≢ ending_words Keep → text ≢ ending_words Abandon → ((saved : ℕ × List ℕ) → ¬ IsSave text saved)
+    → (ending : Ending) → ¬ IsEnding text ending
+no_ending text keep abandon save (Save body minutes) is = save (minutes, body) (record {
+  spelled = is.spelled;
+  minutes = is.fits.1;
+  body = is.fits.0;
+  bytes = is.bytes;
+})
+no_ending text keep abandon save Keep is = keep is.spelled
+no_ending text keep abandon save Abandon is = abandon is.spelled
+
+-- ---- the words of a page
+
+-- the parts of a page
+pub page_head : (text : List ℕ) (page : PageLine) → IsPage text page → IsPageHead text page.name (bytes_word page.key) page.need (ending_words page.ending)
+page_head text page is = record {
+  spelled = is.spelled ∙ four_words page.name (bytes_word page.key) (need_word page.need) (ending_words page.ending);
+  name_is = is.fits.name;
+  key_word = bytes_no_space page.key is.fits.key_bytes;
+}
+
+-- the name stands before the first space
+pub head_first : (text name key : List ℕ) (need : Need) (ending : List ℕ) → IsPageHead text name key need ending
+    → SplitsAt 32 text name (key ++ 32 ∷ (need_word need ++ 32 ∷ ending))
+head_first text name key need ending is = record { joined = is.spelled; first = name_no_space name is.name_is }
+
+-- the key before the second
+pub head_second : (text word rest name key : List ℕ) (need : Need) (ending : List ℕ) → SplitsAt 32 text word rest → IsPageHead text name key need ending
+    → (word ≡ name) × SplitsAt 32 rest key (need_word need ++ 32 ∷ ending)
+head_second text word rest name key need ending split is =
+    let same = split_same 32 text word rest name (key ++ 32 ∷ (need_word need ++ 32 ∷ ending)) split (head_first text name key need ending is) in
+    (same.0, record { joined = same.1; first = is.key_word })
+
+-- the need before the third
+pub head_third : (text word rest again last name key : List ℕ) (need : Need) (ending : List ℕ) → SplitsAt 32 text word rest → SplitsAt 32 rest again last
+    → IsPageHead text name key need ending → (word ≡ name) × (again ≡ key) × SplitsAt 32 last (need_word need) ending
+head_third text word rest again last name key need ending split next is =
+    let second = head_second text word rest name key need ending split is in
+    let same = split_same 32 rest again last key (need_word need ++ 32 ∷ ending) next second.1 in
+    (second.0, same.0, record { joined = same.1; first = need_no_space need })
+
+-- a text has one name, one key, one need and one ending
+pub one_head : (text name key : List ℕ) (need : Need) (ending other word : List ℕ) (want : Need) (rest : List ℕ)
+    → IsPageHead text name key need ending → IsPageHead text other word want rest
+    → (name ≡ other) × (key ≡ word) × (need_word need ≡ need_word want) × (ending ≡ rest)
+one_head text name key need ending other word want rest is also =
+    let first = head_first text name key need ending is in
+    let second = head_second text name (key ++ 32 ∷ (need_word need ++ 32 ∷ ending)) name key need ending first is in
+    let third = head_third text name (key ++ 32 ∷ (need_word need ++ 32 ∷ ending)) key (need_word need ++ 32 ∷ ending) other word want rest first second.1 also in
+    let fourth : SplitsAt 32 (need_word need ++ 32 ∷ ending) (need_word need) ending = record { joined = (λ i. need_word need ++ 32 ∷ ending); first = need_no_space need } in
+    let same = split_same 32 (need_word need ++ 32 ∷ ending) (need_word need) ending (need_word want) rest fourth third.2 in
+    (third.0, third.1, same.0, same.1)
+
+-- a page's key and ending are those of its parts
+pub page_parts : (text name key : List ℕ) (need : Need) (ending : List ℕ) (page : PageLine) → IsPageHead text name key need ending → IsPage text page
+    → IsKey key page.key × IsEnding ending page.ending
+page_parts text name key need ending page head is =
+    let same = one_head text name key need ending page.name (bytes_word page.key) page.need (ending_words page.ending) head (page_head text page is) in
+    (record { spelled = same.1; fits = is.fits.key; bytes = is.fits.key_bytes }, record { spelled = same.3; fits = is.fits.ending; bytes = is.fits.ending_bytes })
+
+-- ---- one page
+
+need_same : (a b : Need) → need_word a ≡ need_word b → a ≡ b
+need_same Exclusive Exclusive e = refl
+need_same Exclusive ReadOnly e = let first = ap (λ t. get_or t 0 0) e in absurd (omega (arith, first))
+need_same Exclusive Off e = let first = ap (λ t. get_or t 0 0) e in absurd (omega (arith, first))
+need_same ReadOnly Exclusive e = let first = ap (λ t. get_or t 0 0) e in absurd (omega (arith, first))
+need_same ReadOnly ReadOnly e = refl
+need_same ReadOnly Off e = let first = ap (λ t. get_or t 0 0) e in absurd (omega (arith, first))
+need_same Off Exclusive e = let first = ap (λ t. get_or t 0 0) e in absurd (omega (arith, first))
+need_same Off ReadOnly e = let first = ap (λ t. get_or t 0 0) e in absurd (omega (arith, first))
+need_same Off Off e = refl
+
+save_of : (text body : List ℕ) (minutes : ℕ) → IsEnding text (Save body minutes) → IsSave text (minutes, body)
+save_of text body minutes is = record { spelled = is.spelled; minutes = is.fits.1; body = is.fits.0; bytes = is.bytes }
+
+one_save : (text a b : List ℕ) (m n : ℕ) → IsSave text (m, a) → IsSave text (n, b) → (m ≡ n) × (a ≡ b)
+one_save text a b m n is other =
+    let words = decimal m ++ 32 ∷ bytes_word a in
+    let front : text ≡ codes "save " ++ words = is.spelled ∙ ap (λ t. codes "save " ++ t) (two_words (decimal m) (bytes_word a)) in
+    let read : IsNumberThen words 525600 m (bytes_word a) = record { spelled = refl; small = is.minutes.1 } in
+    let parts = save_parts text words (bytes_word a) m (n, b) front read other in
+    (parts.0, bytes_same (bytes_word a) a b is.bytes other.bytes refl parts.1.spelled)
+
+-- a text spells one ending
+one_ending : (text : List ℕ) (a b : Ending) → IsEnding text a → IsEnding text b → a ≡ b
+one_ending text (Save a m) (Save b n) is other =
+    let same = one_save text a b m n (save_of text a m is) (save_of text b n other) in
+    λ i. Save (same.1 i) (same.0 i)
+one_ending text (Save a m) Keep is other = let first = ap (λ t. get_or t 0 0) (sym is.spelled ∙ other.spelled) in absurd (omega (arith, first))
+one_ending text (Save a m) Abandon is other = let first = ap (λ t. get_or t 0 0) (sym is.spelled ∙ other.spelled) in absurd (omega (arith, first))
+one_ending text Keep (Save b n) is other = let first = ap (λ t. get_or t 0 0) (sym is.spelled ∙ other.spelled) in absurd (omega (arith, first))
+one_ending text Keep Keep is other = refl
+one_ending text Keep Abandon is other = let first = ap (λ t. get_or t 0 0) (sym is.spelled ∙ other.spelled) in absurd (omega (arith, first))
+one_ending text Abandon (Save b n) is other = let first = ap (λ t. get_or t 0 0) (sym is.spelled ∙ other.spelled) in absurd (omega (arith, first))
+one_ending text Abandon Keep is other = let first = ap (λ t. get_or t 0 0) (sym is.spelled ∙ other.spelled) in absurd (omega (arith, first))
+one_ending text Abandon Abandon is other = refl
+
+-- a text spells one page
+pub one_page : (text : List ℕ) (a b : PageLine) → IsPage text a → IsPage text b → a ≡ b
+one_page text a b is other =
+    let same = one_head text a.name (bytes_word a.key) a.need (ending_words a.ending) b.name (bytes_word b.key) b.need (ending_words b.ending)
+    (page_head text a is) (page_head text b other) in
+    let key = bytes_same (bytes_word a.key) a.key b.key is.fits.key_bytes other.fits.key_bytes refl same.1 in
+    let need = need_same a.need b.need same.2 in
+    let ending = one_ending (ending_words a.ending) a.ending b.ending
+    (record { spelled = refl; fits = is.fits.ending; bytes = is.fits.ending_bytes })
+    (record { spelled = same.3; fits = other.fits.ending; bytes = other.fits.ending_bytes }) in
+    λ i. record { name = same.0 i; key = key i; need = need i; ending = ending i }

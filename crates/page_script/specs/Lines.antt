@@ -1,10 +1,12 @@
 -- The lines of a script: how each is spelled, and the ranges of its lengths and numbers.
-use Rattle.std.specs.Prelude.{◌≡◌, ℕ, ◌<◌, ◌≤◌, ◌^◌, List, length, codes, decimal, All, Option, Some, None, ⊤}
+use Rattle.std.specs.Prelude.{◌≡◌, ℕ, ◌≤◌, ◌^◌, List, length, codes, decimal, ⊤}
 use Rattle.asp_messages.specs.PlainSpelling.{◌then◌, bytes_word}
 use Rattle.asp_messages.specs.Ranges.{KeyFits}
+use Rattle.plain_words.specs.Words.{AreBytes}
 use Rattle.visit_core.specs.declared.act.Ending.{Ending}
 use Rattle.visit_core.specs.declared.act.Ending.TheVariants.{Save, Keep, Abandon}
 use Rattle.visit_core.specs.declared.terms.Need.{Need}
+use Rattle.visit_core.specs.declared.terms.Limits.{Limits}
 use Rattle.visit_core.specs.declared.terms.Need.TheVariants.{Exclusive, ReadOnly, Off}
 use Rattle.visit_core.specs.Terms.{LimitsFit, EndingFits}
 use Rattle.page_script.specs.declared.line.Line.{Line}
@@ -26,20 +28,26 @@ ending_words (Save body minutes) = codes "save" then decimal minutes then bytes_
 ending_words Keep = codes "keep"
 ending_words Abandon = codes "abandon"
 
+-- the words of a `limits` line behind its first one
+abbrev pub limits_words : Limits → List ℕ
+limits_words limits = decimal limits.execution_secs then decimal limits.poll_ms then decimal limits.polls
+
+-- the words of a `page` line behind its first one
+abbrev pub page_words : PageLine → List ℕ
+page_words page = page.name then bytes_word page.key then need_word page.need then ending_words page.ending
+
+-- the words of a `step` line behind its first one
+abbrev pub step_words : ℕ → List ℕ → List ℕ
+step_words moment name = decimal moment then name
+
 -- the one spelling of a line, without its line feed: words with one space between two, numbers in decimal without
 -- leading zeros, bytes as `x` and two lower-case hexadecimal digits each
-unfoldable pub line_text : Line → List ℕ
-line_text (lines.Limits limits) =
-    codes "limits" then decimal limits.execution_secs then decimal limits.poll_ms then decimal limits.polls
-line_text (lines.Page page) =
-    codes "page" then page.name then bytes_word page.key then need_word page.need then ending_words page.ending
-line_text (lines.Step moment name) = codes "step" then decimal moment then name
+abbrev pub line_text : Line → List ℕ
+line_text (lines.Limits limits) = codes "limits" then limits_words limits
+line_text (lines.Page page) = codes "page" then page_words page
+line_text (lines.Step moment name) = codes "step" then step_words moment name
 
 -- ---- ranges
-
--- the list is one of bytes
-abbrev pub AreBytes : List ℕ → Type 0
-AreBytes list = All (λ b. b < 256) list
 
 -- what is saved is bytes
 abbrev pub EndingIsBytes : Ending → Type 0
@@ -72,8 +80,3 @@ pub record IsLine (text : List ℕ) (line : Line) : Type 0 where
   pub fits : LineFits line
   pub spelled : line_text line ≡ text
   pub short : length text ≤ most_line
-
--- what was read is a value of which the fact holds, and nothing only where it holds of none
-abbrev pub Reads : {A : Type 0} → Option A → (A → Type 0) → Type 0
-Reads (Some x) P = P x
-Reads None P = (x : _) → P x → ⊥

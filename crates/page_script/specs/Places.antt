@@ -1,7 +1,7 @@
 -- Where a name stands among the pages of a script.
 use Rattle.std.specs.Prelude.{◌≡◌, ◌≢◌, ℕ, ◌<◌, List, length, slice_index_or}
 use Rattle.std.specs.List.{AllByRecursion}
-use Rattle.page_script.specs.declared.page.ScriptPage.{ScriptPage}
+use Rattle.page_script.specs.declared.script_page.ScriptPage.{ScriptPage}
 
 -- no page has the name
 abbrev pub IsUnused : List ScriptPage → List ℕ → Type 0

@@ -13,7 +13,7 @@ use Rattle.visit_core.specs.Rule.{Event, act_of, has_ended}
 use Rattle.visit_core.specs.Stages.{HasPast}
 use Rattle.page_script.specs.declared.desk.Desk.{Desk}
 use Rattle.page_script.specs.declared.line.Line.{Line}
-use Rattle.page_script.specs.declared.page.ScriptPage.{ScriptPage}
+use Rattle.page_script.specs.declared.script_page.ScriptPage.{ScriptPage}
 use Rattle.page_script.specs.declared.script.Script.{Script}
 use Rattle.page_script.specs.Lines.{IsLine}
 use Rattle.page_script.specs.World.{Page, Turn, World, history, event_of, draws, total_draws, drawn_after, Acts, with_events, WorldStep, turns_of, is_heard}

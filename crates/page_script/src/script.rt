@@ -4,9 +4,8 @@ ghost use Rattle.visit_core.specs.Terms.{LimitsFit};
 ghost use Rattle.page_script.specs.Places.{IsUnused, IsPlaceOf};
 
 use crate::desk::Desk;
-use crate::page::ScriptPage;
-use crate::reading::read_line;
-use crate::{Line, Name, PageLine};
+use crate::script_page::ScriptPage;
+use crate::{Line, Name, PageLine, read_line};
 use asp_base::NoMemory;
 use keeper::Keeper;
 use std::alloc::Global;

@@ -5,7 +5,7 @@ use Rattle.std.proofs.lemmas.Bool.Decides.{not_from_Decides}
 use Rattle.std.proofs.lemmas.List.{take_more}
 use Rattle.std.proofs.lemmas.Slice.Eq.{bytes_eq-Decides}
 use Rattle.session_machine.proofs.HistoryLemmas.{All-push}
-use Rattle.page_script.specs.declared.page.ScriptPage.{ScriptPage}
+use Rattle.page_script.specs.declared.script_page.ScriptPage.{ScriptPage}
 use Rattle.page_script.proofs.script.place_of.Goals as goal
 
 pub returns-then-eq : goal.returns-then-eq

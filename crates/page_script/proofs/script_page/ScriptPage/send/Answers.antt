@@ -1,7 +1,7 @@
 use Rattle.std.proofs.Common.{sym, ◌∙◌, ap, refl, inr}
-use Rattle.page_script.proofs.PageLemmas.{on_ok, on_err, sent, turn-joined}
+use Rattle.page_script.proofs.StepLemmas.{on_ok, on_err, sent, turn-joined}
 use Rattle.page_script.specs.Standing.{state_of}
-use Rattle.page_script.proofs.page.ScriptPage.send.Goals as goal
+use Rattle.page_script.proofs.script_page.ScriptPage.send.Goals as goal
 
 pub returns-clause-ok : goal.returns-clause-ok
 returns-clause-ok g c =

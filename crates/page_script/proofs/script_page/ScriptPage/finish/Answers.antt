@@ -1,6 +1,6 @@
 use Rattle.std.proofs.Common.{sym, refl}
-use Rattle.page_script.proofs.PageLemmas.{kept_ending, finished}
-use Rattle.page_script.proofs.page.ScriptPage.finish.Goals as goal
+use Rattle.page_script.proofs.StepLemmas.{kept_ending, finished}
+use Rattle.page_script.proofs.script_page.ScriptPage.finish.Goals as goal
 
 pub returns-in-Some : goal.returns-in-Some
 returns-in-Some c number turns page content first t stands runs =

@@ -1,7 +1,7 @@
 use Rattle.std.proofs.Common.{◌∙◌}
-use Rattle.page_script.proofs.PageLemmas.{ok-undone, EachSteps-prints}
+use Rattle.page_script.proofs.StepLemmas.{ok-undone, EachSteps-prints}
 use Rattle.page_script.specs.Standing.{state_of}
-use Rattle.page_script.proofs.page.ScriptPage.step.Goals as goal
+use Rattle.page_script.proofs.script_page.ScriptPage.step.Goals as goal
 
 pub returns-clause-ok : goal.returns-clause-ok
 returns-clause-ok g c =

@@ -1,7 +1,7 @@
 use Rattle.std.proofs.Common.{sym, ◌∙◌, ap, refl}
-use Rattle.page_script.proofs.PageLemmas.{on_ok, EachSteps-prints, quiet, ran, line-joined}
+use Rattle.page_script.proofs.StepLemmas.{on_ok, EachSteps-prints, quiet, ran, line-joined}
 use Rattle.page_script.specs.Standing.{state_of}
-use Rattle.page_script.proofs.page.ScriptPage.print_step.Goals as goal
+use Rattle.page_script.proofs.script_page.ScriptPage.print_step.Goals as goal
 
 pub returns-in_ok-request-in-Send-clause-ok : goal.returns-in_ok-request-in-Send-clause-ok
 returns-in_ok-request-in-Send-clause-ok g c =
