@@ -5,3 +5,6 @@ pub mod PageLemmas
 pub mod ReadingLemmas
 pub mod DeskLemmas
 pub mod StepLemmas
+pub mod PlaceLemmas
+pub mod WorldLemmas
+pub mod LawfulLemmas

@@ -1,5 +1,5 @@
 //! A script: its pages, and the desk that they share.
-ghost use Rattle.std.specs.Prelude.{MatchOption};
+ghost use Rattle.std.specs.Prelude.{◌≡◌, ◌<◌, ◌++◌, ◌∷◌, [], ◌↔◌, length, IsTrue, MatchOption, OnOk, OnErr};
 ghost use Rattle.visit_core.specs.Terms.{LimitsFit};
 ghost use Rattle.page_script.specs.Places.{IsUnused, IsPlaceOf};
 
@@ -49,6 +49,22 @@ fn place_of(pages: &[ScriptPage], name: &Name) -> Option<usize>
     None
 }
 
+/// Whether a page of this name may be added.
+fn is_free(pages: &[ScriptPage], name: &Name) -> bool
+    ensures { IsTrue result ↔ ((length pages.now < MOST_PAGES) × IsUnused pages.now name.now) }
+{
+    pages.len() < MOST_PAGES && place_of(pages, name).is_none()
+}
+
+/// Adds a page behind the others.
+fn push_page(pages: &mut Vec<ScriptPage>, page: ScriptPage) -> Result<(), NoMemory>
+    ensures ok { OnOk result (pages.new.items ≡ pages.old.items ++ page ∷ []) }
+    ensures err { OnErr result (pages.new.items ≡ pages.old.items) }
+{
+    pages.push(page)?;
+    Ok(())
+}
+
 impl<K: Keeper> Script<K> {
     ghost use Rattle.std.specs.Prelude.{◌≡◌, ◌⊎◌, ◌≤◌, ◌^◌, ℕ, List, [], ◌∷◌, ◌++◌, ⊤};
     ghost use Rattle.keeper.specs.Items.{IsEmptyTold};
@@ -89,13 +105,13 @@ impl<K: Keeper> Script<K> {
         ensures goes_on { result ≡ LineEnd.Done → IsOver self.new → IsOver self.old }
         ensures keeper { keeper_of self.new ≡ keeper_of self.old }
     {
-        if self.pages.len() >= MOST_PAGES || place_of(&self.pages, &line.name).is_some() {
+        if !is_free(&self.pages, &line.name) {
             return LineEnd::NotALine;
         }
         let page = ScriptPage::new(self.limits, line);
-        match self.pages.push(page) {
+        match push_page(&mut self.pages, page) {
             Ok(()) => LineEnd::Done,
-            Err(_) => {
+            Err(NoMemory) => {
                 self.is_over = true;
                 LineEnd::NoMemory
             }
