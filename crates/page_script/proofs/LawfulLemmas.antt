@@ -1,12 +1,10 @@
 -- What holds in each world that a script stands for.
-use Rattle.std.proofs.Common.{zero, suc, ◌≡◌, ◌≢◌, ℕ, ◌+◌, ◌<◌, ◌≤◌, Bool, true, false, cond, List, [], ◌∷◌, ◌++◌, length, Some, None, Option, inl, inr, refl, sym, ap, ◌∙◌, arith, subst, append_assoc, append-nil}
-use Rattle.std.specs.Prelude.{◌==◌, ◌⊎◌, map, filter}
+use Rattle.std.proofs.Common.{◌≡◌, ◌≢◌, ℕ, ◌+◌, Bool, true, false, cond, List, [], ◌∷◌, ◌++◌, length, Some, None, Option, refl, sym, ap, ◌∙◌, arith, subst}
+use Rattle.std.specs.Prelude.{◌==◌, map, filter}
 use Rattle.std.proofs.lemmas.Bool.Decides.{nat_tests}
 use Rattle.std.proofs.lemmas.List.{map-append}
 use Rattle.std.proofs.lemmas.List.Elements.{filter-append}
-use Rattle.asp_messages.specs.declared.request.Ask.TheVariants.{Read, Acquire, Release}
 use Rattle.asp_messages.specs.declared.reply.Reply.TheVariants.{Locked}
-use Rattle.std.specs.Str.{bytes_eq}
 use Rattle.std.proofs.lemmas.Slice.Eq.{bytes_eq-Decides}
 use Rattle.asp_messages.specs.declared.request.Request.{Request}
 use Rattle.session_machine.specs.declared.entry.Entry.{Entry}
@@ -18,13 +16,12 @@ use Rattle.lock_laws.proofs.WayLemmas.{lock_in_the_way}
 use Rattle.visit_core.specs.declared.terms.Need.{Need}
 use Rattle.visit_core.specs.declared.terms.Need.TheVariants.{Exclusive, ReadOnly, Off}
 use Rattle.visit_core.specs.declared.act.Heard.TheVariants.{Reply}
-use Rattle.visit_core.specs.Rule.{Event, heard, ended, lost, act_of, send_ask, ask_of, has_ended, IsLawful, MeetsOldLock}
+use Rattle.visit_core.specs.Rule.{Event, heard, ask_of, IsLawful, MeetsOldLock}
 use Rattle.visit_core.specs.Terms.{Terms}
 use Rattle.visit_core.proofs.ReleaseLemmas.{releases}
 use Rattle.page_script.specs.declared.script.Script.{Script}
-use Rattle.page_script.specs.declared.script_page.ScriptPage.{ScriptPage}
 use Rattle.page_script.specs.World.{Page, Turn, World, history, entry_of, event_of, turns_of, is_heard, IsLawfulPage, IsLawfulWorld, MetOldLock, ForcesOldLocks}
-use Rattle.page_script.specs.Standing.{DeskStands, PageStands, PagesStand, Stands, IfTold, keeper_of}
+use Rattle.page_script.specs.Standing.{PagesStand, Stands, IfTold, keeper_of}
 use Rattle.page_script.proofs.PlaceLemmas.{held-at}
 
 -- ---- the place of a page's last answer

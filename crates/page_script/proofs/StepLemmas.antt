@@ -1,7 +1,6 @@
 -- What a step adds to a page.
-use Rattle.std.proofs.Common.{zero, suc, ◌≡◌, ◌≢◌, ℕ, ◌+◌, ◌<◌, ◌≤◌, Bool, true, false, cond, List, [], ◌∷◌, ◌++◌, length, take, Some, None, Option, Ok, Err, Result, refl, sym, ap, ◌∙◌, arith, subst, inl, inr, append_assoc, append-nil}
-use Rattle.std.specs.Prelude.{◌==◌, ◌||◌, is_ok, OnOk, OnErr, map, filter, codes, decimal, reverse, ⊤}
-use Rattle.std.specs.List.{AllByRecursion}
+use Rattle.std.proofs.Common.{◌≡◌, ◌≢◌, ℕ, Bool, true, false, cond, List, [], ◌∷◌, ◌++◌, take, Some, None, Option, Ok, Err, Result, refl, sym, ap, ◌∙◌, subst, append_assoc, append-nil}
+use Rattle.std.specs.Prelude.{◌==◌, ◌||◌, is_ok, OnOk, OnErr, map, filter, codes, reverse}
 use Rattle.std.proofs.lemmas.Bool.{eq-eqb}
 use Rattle.std.proofs.lemmas.List.{map-append, reverse-append}
 use Rattle.std.proofs.lemmas.List.Elements.{filter-append}
@@ -9,18 +8,18 @@ use Rattle.asp_messages.specs.declared.request.Request.{Request}
 use Rattle.asp_messages.specs.declared.request.Ask.{Ask}
 use Rattle.asp_messages.specs.declared.reply.Reply.{Reply as ReplyValue}
 use Rattle.asp_messages.specs.declared.reply.Reply.TheVariants as replies
-use Rattle.asp_messages.specs.PlainSpelling.{◌then◌, ask_spelling, reply_spelling}
+use Rattle.asp_messages.specs.PlainSpelling.{ask_spelling, reply_spelling}
 use Rattle.asp_messages.specs.Ranges.{ReplyFits}
 use Rattle.visit_core.specs.declared.act.Ending.{Ending}
 use Rattle.visit_core.specs.declared.act.Heard.{Heard}
 use Rattle.visit_core.specs.declared.act.Heard.TheVariants.{Reply, Strange}
 use Rattle.visit_core.specs.Acts.{Action, send, wait_until, run, over}
-use Rattle.visit_core.specs.Rule.{Event, heard, ended, lost, act_of, act_after, after_answer, after_end, after_loss, at_end, ending_ask, own_cookie, locked_answers, has_ended}
+use Rattle.visit_core.specs.Rule.{Event, heard, ended, lost, act_of, act_after, after_end, after_loss, at_end, ending_ask, own_cookie, has_ended}
 use Rattle.visit_core.specs.Stages.{HasPast}
 use Rattle.visit_core.specs.Terms.{Terms}
 use Rattle.page_script.specs.declared.script_page.ScriptPage.{ScriptPage}
 use Rattle.page_script.specs.World.{Page, Turn, event_of, Acts, turn_words, run_words, with_events, turns_of, is_heard}
-use Rattle.page_script.specs.Standing.{DeskState, DeskStands, turn_at, PageStands, Steps, EachSteps, EachMayStep}
+use Rattle.page_script.specs.Standing.{DeskState, DeskStands, turn_at, PageStands, EachSteps}
 
 -- ---- results
 
@@ -181,7 +180,7 @@ module _ (CanCount : ℕ → Type 0) (t : ℕ) (held : ScriptPage)
     pub ran : (held' : ScriptPage) (desk : DeskState) (content : Option (List ℕ)) (first : Bool) (Prints : List ℕ → Type 0)
         → ((past : List Event) → HasPast held.visit past → run content first ≡ act_of held.visit.terms past t)
         → ((number : ℕ) (turns : List Turn) (page : Page) (body : Option (List ℕ)) (mark : Bool) (u : ℕ) → PageStands turns number held page
-            → act_of page.terms page.past u ≡ run body mark → PageStands turns number held' (with_events page (ended page.ending ∷ [])))
+        → act_of page.terms page.past u ≡ run body mark → PageStands turns number held' (with_events page (ended page.ending ∷ [])))
         → Prints (run_words content first)
         → EachSteps CanCount t held held' desk desk Prints
     ran held' desk content first Prints act ends prints number turns page stands desk_stands =

@@ -1,5 +1,5 @@
 -- The world that a script stands for takes a line.
-use Rattle.std.proofs.Common.{zero, suc, ◌≡◌, ◌≢◌, ℕ, ◌+◌, ◌<◌, ◌≤◌, List, [], ◌∷◌, ◌++◌, length, get_or, set, Option, inl, inr, refl, sym, ap, ◌∙◌, arith, subst, append_assoc, append-nil, length-append}
+use Rattle.std.proofs.Common.{◌≡◌, ◌≢◌, ℕ, ◌+◌, ◌<◌, List, [], ◌∷◌, ◌++◌, length, get_or, set, Option, inl, inr, refl, sym, ap, ◌∙◌, arith, subst, append-nil, length-append}
 use Rattle.std.specs.Prelude.{◌⊎◌, ⊤}
 use Rattle.std.specs.List.{AllByRecursion}
 use Rattle.session_machine.specs.declared.item.Item.{Item}
@@ -7,15 +7,14 @@ use Rattle.visit_core.specs.declared.act.Ending.{Ending}
 use Rattle.visit_core.specs.declared.terms.Limits.{Limits}
 use Rattle.visit_core.specs.Acts.{Action, send, wait_until, run, over}
 use Rattle.visit_core.specs.Rule.{Event, act_of}
-use Rattle.page_script.specs.declared.line.Line.{Line}
 use Rattle.page_script.specs.declared.line.Line.TheVariants as lines
 use Rattle.page_script.specs.declared.line.PageLine.{PageLine}
 use Rattle.page_script.specs.declared.script.Script.{Script}
 use Rattle.page_script.specs.declared.script_page.ScriptPage.{ScriptPage}
-use Rattle.page_script.specs.Places.{IsUnused, IsPlaceOf}
-use Rattle.page_script.specs.World.{Page, Turn, World, Acts, step_line, with_events, turns_of, new_page, most_pages, HasName, MayFollow, PageSteps}
-use Rattle.page_script.specs.Standing.{DeskState, state_of, PageStands, PagesStand, Steps, EachSteps, EachMayStep, Stays, Stands, Takes}
-use Rattle.page_script.proofs.PlaceLemmas.{All-append, All-more, turns_of-none, PagesStand-length, IsFound, found, PagesStand-push, unused-no_name, place-has_name}
+use Rattle.page_script.specs.Places.{IsUnused}
+use Rattle.page_script.specs.World.{Page, Turn, World, Acts, step_line, with_events, turns_of, new_page, most_pages}
+use Rattle.page_script.specs.Standing.{state_of, PageStands, PagesStand, Steps, EachSteps, EachMayStep, Stays, Stands, Takes}
+use Rattle.page_script.proofs.PlaceLemmas.{All-append, All-more, turns_of-none, PagesStand-length, IsFound, found, PagesStand-push, unused-no_name}
 
 -- a step asks only in its own page's name
 asked-own : (action : Action) (t number : ℕ) (ending : Ending) (turns : List Turn) (events : List Event) (asked : List Turn) (words : List ℕ)

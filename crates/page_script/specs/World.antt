@@ -1,6 +1,6 @@
 -- The world of a script: named pages that visit one state server by a schedule, and what is printed of it. Each page follows the
 -- rule of a visit, and each request that it sends is one step of the session machine, whose reply it hears at once.
-use Rattle.std.specs.Prelude.{◌≡◌, ◌≢◌, ℕ, ◌+◌, ◌<◌, List, [], ◌∷◌, ◌++◌, length, map, filter, codes, decimal, unwrap_or, Option, Some, None, Bool, true, false, ◌==◌, All, ⊤}
+use Rattle.std.specs.Prelude.{◌≡◌, ℕ, ◌+◌, ◌<◌, List, [], ◌∷◌, ◌++◌, length, map, filter, codes, decimal, unwrap_or, Option, Some, None, Bool, true, false, ◌==◌, ⊤}
 use Rattle.asp_messages.specs.declared.request.Request.{Request}
 use Rattle.asp_messages.specs.declared.request.Ask.{Ask}
 use Rattle.asp_messages.specs.declared.request.Ask.TheVariants.{Acquire, Release}

@@ -44,7 +44,9 @@ step 112000 b",
         &mut out,
     );
     assert_eq!(rt; end, LineEnd::Done);
-    assert_eq!(rt; out.as_slice(), b"0 c acquire : missing
+    assert_eq!(rt;
+        out.as_slice(),
+        b"0 c acquire : missing
 0 c run none
 0 c write 0 20 0 x31 : done
 0 a acquire : found 2 20 0 x31
@@ -62,7 +64,8 @@ step 112000 b",
 112000 b release 6 : done
 112000 b over done
 "
-.as_slice());
+            .as_slice()
+    );
 }
 
 #[test]
@@ -87,7 +90,9 @@ step 2000 o",
         &mut out,
     );
     assert_eq!(rt; end, LineEnd::Done);
-    assert_eq!(rt; out.as_slice(), b"0 c acquire : missing
+    assert_eq!(rt;
+        out.as_slice(),
+        b"0 c acquire : missing
 0 c run none
 0 c write 0 20 0 x31 : done
 0 a acquire : found 2 20 0 x31
@@ -97,5 +102,6 @@ step 2000 o",
 2000 o reset : done
 2000 o over done
 "
-.as_slice());
+            .as_slice()
+    );
 }

@@ -1,5 +1,4 @@
 use Rattle.std.proofs.Common.{◌≡◌, subst}
-use Rattle.page_script.specs.declared.line.Line.{Line}
 use Rattle.page_script.specs.World.{MayFollow}
 use Rattle.page_script.proofs.ReadingLemmas.{one_line_each}
 use Rattle.page_script.proofs.LawfulLemmas.{lawful, forced}

@@ -1,7 +1,5 @@
-use Rattle.std.proofs.Common.{refl, sym, subst}
+use Rattle.std.proofs.Common.{refl}
 use Rattle.page_script.proofs.WorldLemmas.{limits-taken}
-use Rattle.page_script.specs.declared.line.Line.{Line}
-use Rattle.page_script.specs.Standing.{Takes}
 use Rattle.page_script.proofs.script.Script.run.Goals as goal
 
 pub returns-in-Limits-clause-done : goal.returns-in-Limits-clause-done
