@@ -7,6 +7,8 @@ mod name;
 mod page;
 mod parts;
 mod reading;
+#[cfg(test)]
+mod tests;
 
 pub use laws::one_line;
 pub use line::{Line, MOST_LINE, PageLine};
