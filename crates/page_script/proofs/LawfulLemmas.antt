@@ -129,7 +129,7 @@ module _ (turns : List Turn) (number : ℕ) (page : Page) (cookie : ℕ) (legal 
       in_force = subst (IsInForceFor nothing 0 page.terms.key cookie met.age (history place.before)) same_moment in_force;
     }
 
-forces : (world : World) → IsLegal nothing 0 (history world.turns) → IsLawfulWorld world → ForcesOldLocks world
+pub forces : (world : World) → IsLegal nothing 0 (history world.turns) → IsLawfulWorld world → ForcesOldLocks world
 forces world legal lawful before page behind t cookie place not_ended acts =
     let page_lawful = lawful before page behind place in
     met-old world.turns (length before) page cookie legal page_lawful (releases page.terms page.past t cookie page_lawful.lawful not_ended acts)

@@ -8,3 +8,4 @@ pub mod StepLemmas
 pub mod PlaceLemmas
 pub mod WorldLemmas
 pub mod LawfulLemmas
+pub mod RunLemmas

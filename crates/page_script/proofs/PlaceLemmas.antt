@@ -34,7 +34,7 @@ turns_of-none number [] all = refl
 turns_of-none number (turn ∷ turns) all =
     ap (λ b. cond b (turn ∷ turns_of number turns) (turns_of number turns)) (is-own turn.page number all.0) ∙ turns_of-none number turns all.1
 
-turns_of-other : (number m : ℕ) (turns asked : List Turn) → m ≢ number → AllByRecursion (λ (turn : Turn). turn.page ≡ m) asked
+pub turns_of-other : (number m : ℕ) (turns asked : List Turn) → m ≢ number → AllByRecursion (λ (turn : Turn). turn.page ≡ m) asked
     → turns_of number (turns ++ asked) ≡ turns_of number turns
 turns_of-other number m turns asked apart own =
     filter-append (λ (turn : Turn). turn.page == number) turns asked

@@ -65,7 +65,7 @@ has_ended-reverse (event ∷ past) =
 
 -- ---- a page runs before its end
 
-end-no_run : (answer : Heard) (content : Option (List ℕ)) (first : Bool) → after_end answer ≢ run content first
+pub end-no_run : (answer : Heard) (content : Option (List ℕ)) (first : Bool) → after_end answer ≢ run content first
 end-no_run (Reply replies.Done) content first = λ e. cc
 end-no_run (Reply replies.Missing) content first = λ e. cc
 end-no_run (Reply (replies.Locked cookie age)) content first = λ e. cc
@@ -77,11 +77,11 @@ end-no_run (Reply replies.CookiesOut) content first = λ e. cc
 end-no_run (Reply replies.PlacesOut) content first = λ e. cc
 end-no_run (Strange status) content first = λ e. cc
 
-last-no_run : (terms : Terms) (ask : Option Ask) (content : Option (List ℕ)) (first : Bool) → at_end terms ask ≢ run content first
+pub last-no_run : (terms : Terms) (ask : Option Ask) (content : Option (List ℕ)) (first : Bool) → at_end terms ask ≢ run content first
 last-no_run terms None content first = λ e. cc
 last-no_run terms (Some ask) content first = λ e. cc
 
-loss-no_run : (action : Action) (content : Option (List ℕ)) (first : Bool) → after_loss action ≢ run content first
+pub loss-no_run : (action : Action) (content : Option (List ℕ)) (first : Bool) → after_loss action ≢ run content first
 loss-no_run (send request) content first = λ e. cc
 loss-no_run (wait_until moment) content first = λ e. cc
 loss-no_run (run body mark) content first = λ e. cc

@@ -17,7 +17,7 @@ use Rattle.page_script.specs.Standing.{state_of, PageStands, PagesStand, Steps, 
 use Rattle.page_script.proofs.PlaceLemmas.{All-append, All-more, turns_of-none, PagesStand-length, IsFound, found, PagesStand-push, unused-no_name}
 
 -- a step asks only in its own page's name
-asked-own : (action : Action) (t number : ℕ) (ending : Ending) (turns : List Turn) (events : List Event) (asked : List Turn) (words : List ℕ)
+pub asked-own : (action : Action) (t number : ℕ) (ending : Ending) (turns : List Turn) (events : List Event) (asked : List Turn) (words : List ℕ)
     → Acts action t number ending turns events asked words → AllByRecursion (λ (turn : Turn). turn.page ≡ number) asked
 asked-own (send request) t number ending turns events asked words acts = subst (AllByRecursion (λ (turn : Turn). turn.page ≡ number)) (sym acts.3) (acts.1.page, tt)
 asked-own (wait_until moment) t number ending turns events asked words acts = subst (AllByRecursion (λ (turn : Turn). turn.page ≡ number)) (sym acts.1) tt

@@ -16,7 +16,7 @@ mod script_page;
 mod tests;
 mod text;
 
-pub use laws::one_line;
+pub use laws::{one_line, pages_keep_their_rule, runs_go_on};
 pub use line::{Line, MOST_LINE, PageLine};
 pub use name::Name;
 pub use reading::read_line;
