@@ -67,6 +67,7 @@ fn push_page(pages: &mut Vec<ScriptPage>, page: ScriptPage) -> Result<(), NoMemo
 
 impl<K: Keeper> Script<K> {
     ghost use Rattle.std.specs.Prelude.{◌≡◌, ◌⊎◌, ◌≤◌, ◌^◌, ℕ, List, [], ◌∷◌, ◌++◌, ⊤};
+    ghost use Rattle.std.specs.List.{AllByRecursion};
     ghost use Rattle.keeper.specs.Items.{IsEmptyTold};
     ghost use Rattle.session_machine.specs.History.{nothing};
     ghost use Rattle.shard_core.specs.Standing.{StandsFor};
@@ -209,6 +210,7 @@ impl<K: Keeper> Script<K> {
     pub fn into_keeper(self) -> K
         ensures keeper { result ≡ keeper_of self }
         ensures history { (world : World) → Stands K.can_count K.told K.count self world → StandsFor nothing 0 (history world.turns) (K.told result) (K.count result) }
+        ensures counts { (world : World) → Stands K.can_count K.told K.count self world → AllByRecursion (λ turn. K.can_count turn.faults) world.turns }
         ensures lawful { (world : World) → Stands K.can_count K.told K.count self world → IsLawfulWorld world }
         ensures forced { (world : World) → Stands K.can_count K.told K.count self world → IfTold (K.told result) (ForcesOldLocks world) }
     {
