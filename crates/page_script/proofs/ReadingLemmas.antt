@@ -1,12 +1,12 @@
 -- Lines by their first words.
 use Rattle.std.proofs.Common.{◌≡◌, ◌≢◌, ℕ, ◌<◌, ◌≤◌, ◌^◌, List, [], ◌∷◌, ◌++◌, true, IsTrue, drop, get_or, refl, sym, ap, ◌∙◌, subst, arith}
-use Rattle.std.specs.Prelude.{codes, decimal, nat_le}
+use Rattle.std.specs.Prelude.{codes, decimal, nat_le, Option, Some, None, is_some, IfNone}
 use Rattle.std.specs.List.{All, list_all}
 use Rattle.std.proofs.lemmas.Bool.Decides.{nat_tests}
 use Rattle.std.proofs.lemmas.List.Elements.{All-append, All-cons, All-nil, All-weaker}
 use Rattle.std.proofs.lemmas.List.Sums.{AllPass-from_list_all}
 use Rattle.asp_messages.specs.PlainSpelling.{◌then◌, bytes_word}
-use Rattle.plain_words.specs.Words.{AreBytes, HasNo, IsWord}
+use Rattle.plain_words.specs.Words.{AreBytes, HasNo, IsWord, Reads}
 use Rattle.plain_words.proofs.ByteStringLemmas.{string_word}
 use Rattle.plain_words.proofs.NumberLemmas.{decimal_word}
 use Rattle.visit_core.specs.declared.act.Ending.{Ending}
@@ -25,7 +25,7 @@ use Rattle.page_script.proofs.LineLemmas.{one_limits, one_step}
 use Rattle.page_script.proofs.PageLemmas.{one_page}
 
 -- the words behind `step` are no step
-pub no_step_line : (text words : List ℕ) → text ≡ codes "step " ++ words → ((step : ℕ × List ℕ) → ¬ IsStep words step) → (line : Line) → ¬ IsLine text line
+no_step_line : (text words : List ℕ) → text ≡ codes "step " ++ words → ((step : ℕ × List ℕ) → ¬ IsStep words step) → (line : Line) → ¬ IsLine text line
 no_step_line text words front none (lines.Limits limits) is =
     let first = ap (λ t. get_or t 0 0) (is.spelled ∙ front) in
     omega (arith, first)
@@ -34,6 +34,13 @@ no_step_line text words front none (lines.Page page) is =
     omega (arith, first)
 no_step_line text words front none (lines.Step moment name) is =
     none (moment, name) (record { spelled = ap (drop 5) (sym front ∙ sym is.spelled); fits = is.fits })
+
+-- where no step was read there is no line
+pub no_step_read : (text words : List ℕ) (step : Option (ℕ × List ℕ)) (found : Option Line) → text ≡ codes "step " ++ words
+    → Reads (IsStep words) step → is_some found ≡ is_some step → IfNone found ((line : Line) → ¬ IsLine text line)
+no_step_read text words step (Some line) front read same = tt
+no_step_read text words None None front read same = no_step_line text words front read
+no_step_read text words (Some step) None front read same = cc
 
 -- ---- one line
 

@@ -9,14 +9,18 @@ use visit_core::Need;
 
 /// What stands behind the front that the text begins with.
 pub fn behind<'a>(text: &'a [u8], front: &[u8]) -> Option<&'a [u8]>
-    ensures { MatchOption result ((rest : List ℕ) → text.now ≢ front.now ++ rest) (λ rest. text.now ≡ front.now ++ rest.now) }
+    ensures { MatchOption result
+        ((rest : List ℕ) → text.now ≢ front.now ++ rest)
+        (λ rest. text.now ≡ front.now ++ rest.now) }
 {
     text.strip_prefix(front)
 }
 
 /// A number of at most `max` with a space behind it, and the text behind that.
 pub fn read_number_then(text: &[u8], max: u64) -> Option<(u64, &[u8])>
-    ensures { MatchOption result ((n : ℕ) (rest : List ℕ) → IsNumberThen text.now max n rest → ⊥) (λ parts. IsNumberThen text.now max parts.0 parts.1.now) }
+    ensures { MatchOption result
+        ((n : ℕ) (rest : List ℕ) → IsNumberThen text.now max n rest → ⊥)
+        (λ parts. IsNumberThen text.now max parts.0 parts.1.now) }
 {
     let (word, rest) = split_word(text)?;
     let n = read_plain_number(word, max)?;

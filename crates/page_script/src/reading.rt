@@ -50,22 +50,13 @@ pub fn read_line(alloc: Global, text: &[u8]) -> Result<Option<Line>, NoMemory>
         return Ok(None);
     }
     if let Some(words) = behind(text, b"limits ") {
-        return Ok(match read_limits(words) {
-            Some(limits) => Some(Line::Limits(limits)),
-            None => None,
-        });
+        return Ok(read_limits(words).map(Line::Limits));
     }
     if let Some(words) = behind(text, b"page ") {
-        return Ok(match read_page(alloc, words)? {
-            Some(page) => Some(Line::Page(page)),
-            None => None,
-        });
+        return Ok(read_page(alloc, words)?.map(Line::Page));
     }
     if let Some(words) = behind(text, b"step ") {
-        return Ok(match read_step(words) {
-            Some((moment, name)) => Some(Line::Step { moment, name }),
-            None => None,
-        });
+        return Ok(read_step(words).map(|(moment, name)| Line::Step { moment, name }));
     }
     Ok(None)
 }
