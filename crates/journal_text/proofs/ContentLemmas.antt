@@ -1,5 +1,5 @@
 -- The words of content are read as they are written, and so are those of asks and replies.
-use Rattle.std.proofs.Common.{◌≡◌, ◌≢◌, ℕ, ◌+◌, ◌-◌, ◌<◌, ◌≤◌, ◌^◌, Bool, true, false, List, [], ◌∷◌, ◌++◌, length, get_or, Option, Some, None, refl, sym, ap, ◌∙◌, arith, append_assoc, subst}
+use Rattle.std.proofs.Common.{◌≡◌, ◌≢◌, ℕ, ◌-◌, ◌≤◌, ◌^◌, Bool, List, ◌∷◌, ◌++◌, Option, Some, None, sym, ap, ◌∙◌, arith}
 use Rattle.std.specs.Prelude.{codes, decimal, IfSome, IfNone}
 use Rattle.std.proofs.lemmas.List.{append_cancel_left}
 use Rattle.asp_messages.specs.declared.request.Ask.{Ask}
@@ -7,12 +7,12 @@ use Rattle.asp_messages.specs.declared.request.Ask.TheVariants.{Read, Acquire, R
 use Rattle.asp_messages.specs.declared.reply.Reply.{Reply}
 use Rattle.asp_messages.specs.declared.reply.Reply.TheVariants.{Found, Done, Locked, Missing, Bad, KeeperFault, NoMemory, CookiesOut, PlacesOut}
 use Rattle.asp_messages.specs.Fields.{named}
-use Rattle.asp_messages.specs.PlainSpelling.{◌then◌, cookie_word, flag_word, bytes_word, ask_spelling, reply_spelling}
+use Rattle.asp_messages.specs.PlainSpelling.{flag_word, bytes_word, ask_spelling, reply_spelling}
 use Rattle.plain_words.specs.Words.{Reads, IsNumber, IsByteString, IsFlag, HasNo, SplitsAt}
 use Rattle.journal_text.specs.declared.content_words.Content.{Content}
 use Rattle.journal_text.specs.Spelled.{IsContent, IsAsk, IsReply, content_words}
 use Rattle.journal_text.proofs.CutLemmas.{not_cut, number_cut}
-use Rattle.journal_text.proofs.OneSpelling.{cookie_number, cookie_number-fits, cookie_number-named, named-fits, content_nested, behind_cookie, behind_minutes, at_flag, write_content, write_nested, release_words, remove_words, found_nested, locked_words, ask_tag, ask_at, reply_tag, reply_at}
+use Rattle.journal_text.proofs.OneSpelling.{cookie_number, cookie_number-fits, cookie_number-named, named-fits, content_nested, behind_cookie, behind_minutes, at_flag, write_content, write_nested, release_words, remove_words, found_nested, locked_words, ask_at, reply_at}
 
 -- ---- content
 
@@ -166,9 +166,9 @@ no_cookie text none = locked_only text (λ n a is. let h = is.fits in none n (de
 pub no_age : (text rest : List ℕ) (n : ℕ) → n ≤ 2 ^ 63 - 1 → text ≡ decimal n ++ 32 ∷ rest → ((a : ℕ) → ¬ IsNumber rest (2 ^ 62) a) → (r : Reply) → ¬ IsReply (codes "locked " ++ text) r
 no_age text rest n small e none =
     locked_only text (λ k a is.
-        let h = is.fits in
-        let cut = number_cut n k rest (decimal a) (omega arith) (omega arith) (sym e ∙ locked_text text k a is) in
-        none a (cut.1, h.1))
+    let h = is.fits in
+    let cut = number_cut n k rest (decimal a) (omega arith) (omega arith) (sym e ∙ locked_text text k a is) in
+    none a (cut.1, h.1))
 
 pub is_found : (text : List ℕ) (c : Content) → IsContent text c → IsReply (codes "found " ++ text) (Found c.body c.minutes c.cookie c.flag)
 is_found text c is = record {

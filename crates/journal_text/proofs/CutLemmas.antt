@@ -1,11 +1,10 @@
 -- Texts are cut at their spaces in one way.
-use Rattle.std.proofs.Common.{◌≡◌, ◌≢◌, ℕ, ◌+◌, ◌<◌, ◌≤◌, ◌^◌, Bool, true, List, [], ◌∷◌, ◌++◌, length, Option, Some, None, refl, sym, ap, ◌∙◌, arith, append_assoc, subst}
-use Rattle.std.specs.Prelude.{codes, decimal, MatchOption}
-use Rattle.std.specs.List.{All}
+use Rattle.std.proofs.Common.{◌≡◌, ◌≢◌, ℕ, ◌<◌, ◌^◌, List, [], ◌∷◌, ◌++◌, refl, sym, ap, ◌∙◌, append_assoc, subst}
+use Rattle.std.specs.Prelude.{codes, decimal}
 use Rattle.std.proofs.lemmas.Fmt.{decimal_injective}
 use Rattle.std.proofs.lemmas.List.Elements.{All-head, All-tail}
 use Rattle.asp_messages.specs.PlainSpelling.{◌then◌}
-use Rattle.plain_words.specs.Words.{HasNo, SplitsAt, Reads, IsNumber}
+use Rattle.plain_words.specs.Words.{HasNo, SplitsAt}
 use Rattle.plain_words.proofs.NumberLemmas.{decimal_word}
 use Rattle.plain_words.proofs.SplitLemmas.{split_one}
 use Rattle.journal_text.proofs.PhraseLemmas.{no_space}

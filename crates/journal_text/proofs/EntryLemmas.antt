@@ -1,9 +1,8 @@
 -- The line of an entry is read as it was written.
-use Rattle.std.proofs.Common.{◌≡◌, ◌≢◌, ℕ, ◌+◌, ◌-◌, ◌<◌, ◌≤◌, ◌^◌, List, [], ◌∷◌, ◌++◌, length, drop, get_or, refl, sym, ap, ◌∙◌, arith, subst}
+use Rattle.std.proofs.Common.{◌≡◌, ℕ, ◌<◌, ◌^◌, List, length, drop, get_or, refl, sym, ap, ◌∙◌, arith, subst}
 use Rattle.std.specs.Prelude.{codes, decimal}
 use Rattle.asp_messages.specs.declared.request.Ask.{Ask}
 use Rattle.asp_messages.specs.declared.request.Ask.TheVariants.{Read, Acquire, Release, Write, Remove, Reset}
-use Rattle.asp_messages.specs.declared.request.Request.{Request}
 use Rattle.asp_messages.specs.declared.reply.Reply.{Reply}
 use Rattle.asp_messages.specs.declared.reply.Reply.TheVariants.{Found, Done, Locked, Missing, Bad, KeeperFault, NoMemory, CookiesOut, PlacesOut}
 use Rattle.asp_messages.specs.PlainSpelling.{◌then◌, bytes_word, reply_spelling}
@@ -11,10 +10,10 @@ use Rattle.asp_messages.specs.Ranges.{ReplyFits}
 use Rattle.session_machine.specs.declared.entry.Deed.{Deed}
 use Rattle.session_machine.specs.declared.entry.Deed.TheVariants.{Asked, Expired, Looked}
 use Rattle.session_machine.specs.declared.entry.Entry.{Entry}
-use Rattle.session_machine.specs.History.{IsFormed, DeedFits, DrawFits, HasPlace, IsLookReply}
-use Rattle.plain_words.specs.Words.{AreBytes, HasNo}
+use Rattle.session_machine.specs.History.{DeedFits, DrawFits, HasPlace, IsLookReply}
+use Rattle.plain_words.specs.Words.{AreBytes}
 use Rattle.plain_words.proofs.ByteStringLemmas.{string_injective}
-use Rattle.journal_text.specs.JournalText.{EntryFits, DeedHasBytes, ReplyHasBytes, key_word, deed_words, number_words, entry_words}
+use Rattle.journal_text.specs.JournalText.{key_word, deed_words, entry_words}
 use Rattle.journal_text.specs.Spelled.{IsCut, IsDeed, IsReply, IsEntry, AnswerFits, DeedInRange}
 use Rattle.journal_text.proofs.PhraseLemmas.{no_space, key_is_word, deed_phrase, phrase_no}
 use Rattle.journal_text.proofs.OneSpelling.{deed_one, reply_one}

@@ -1,20 +1,17 @@
 -- The lines of a journal are short and one line each, and a text is one journal.
-use Rattle.std.proofs.Common.{◌≡◌, ◌≢◌, ℕ, zero, suc, ◌+◌, ◌-◌, ◌<◌, ◌≤◌, ◌^◌, Bool, true, false, List, [], ◌∷◌, ◌++◌, length, drop, Option, Some, None, is_some, refl, sym, ap, ◌∙◌, arith, append_assoc, append-nil, length-append, subst, inl, inr, ◌⊎◌}
+use Rattle.std.proofs.Common.{◌≡◌, ◌≢◌, ℕ, ◌<◌, ◌≤◌, ◌^◌, Bool, true, false, List, [], ◌∷◌, ◌++◌, length, Some, None, is_some, refl, sym, ap, ◌∙◌, arith, append_assoc, append-nil, length-append, subst, inl, inr, ◌⊎◌}
 use Rattle.std.specs.Prelude.{codes, decimal}
-use Rattle.std.specs.List.{All, AllByRecursion, flat_map}
-use Rattle.std.proofs.lemmas.Bool.{cases_eq, cases_lt}
+use Rattle.std.specs.List.{AllByRecursion, flat_map}
 use Rattle.std.proofs.lemmas.Fmt.{decimal_injective}
 use Rattle.std.proofs.lemmas.List.{append_cancel_left}
-use Rattle.std.proofs.lemmas.List.Elements.{All-append, All-cons, All-nil, All-head, All-tail}
+use Rattle.std.proofs.lemmas.List.Elements.{All-append, All-cons, All-nil}
 use Rattle.asp_messages.specs.PlainSpelling.{◌then◌, reply_spelling}
-use Rattle.asp_messages.specs.Ranges.{ReplyFits}
 use Rattle.asp_messages.proofs.DecimalLemmas.{decimal-short}
 use Rattle.session_machine.specs.declared.entry.Entry.{Entry}
 use Rattle.plain_words.specs.Words.{HasNo, SplitsAt}
 use Rattle.plain_words.proofs.SplitLemmas.{split_one}
 use Rattle.journal_text.specs.JournalText.{key_word, deed_words, number_words, entry_words, head_words, line, head_line, entry_line, journal_text, PlaceFits, EntryFits, IsJournal, most_line}
-use Rattle.journal_text.specs.Reading.{IsLine, BeginsWrong, IsTooLong, IsNoLine, Taken, taken_text, TakenFits, IsCutOff, StopsAt}
-use Rattle.journal_text.specs.Spelled.{IsEntry}
+use Rattle.journal_text.specs.Reading.{IsLine, IsNoLine, Taken, taken_text, TakenFits, IsCutOff, StopsAt}
 use Rattle.journal_text.proofs.PhraseLemmas.{is_phrase, phrase_no, number_phrase, word_phrase, deed_phrase, reply_phrase, key_is_word, length-then, deed_short, reply_short, key_short}
 use Rattle.journal_text.proofs.CutLemmas.{no_cut}
 use Rattle.journal_text.proofs.EntryLemmas.{entry_one, drawn_small, deed_in_range, reply_in_range}
@@ -181,7 +178,7 @@ stops_somewhere (inl (inl (words, rest, split, wrong))) =
     let a = length-append words (10 ∷ rest) in
     omega (arith, h, a)
 stops_somewhere (inl (inr long)) = let h = long.1 in omega arith
-stops_somewhere (inr cut) = elim cut.1 [ | inl some ↦ some refl | inr e ↦ cc e ]
+stops_somewhere (inr cut) = elim cut.1 [ inl some ↦ some refl | inr e ↦ cc e ]
 
 taken_parts : (place : ℕ) (list : List Entry) (rest : List ℕ) → journal_text place list ++ rest ≡ head_line place ++ (flat_map entry_line list ++ rest)
 taken_parts place list rest = append_assoc (head_line place) (flat_map entry_line list) rest

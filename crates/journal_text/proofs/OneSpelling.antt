@@ -1,9 +1,7 @@
 -- A text spells one ask, one reply, one deed and one entry.
-use Rattle.std.proofs.Common.{◌≡◌, ◌≢◌, ℕ, ◌+◌, ◌<◌, ◌≤◌, ◌^◌, Bool, true, false, List, [], ◌∷◌, ◌++◌, length, drop, get_or, Option, Some, None, refl, sym, ap, ◌∙◌, arith, append_assoc, subst, inl, inr}
-use Rattle.std.specs.Prelude.{◌==◌, codes, decimal}
-use Rattle.std.proofs.Math.Seq.{take-add}
+use Rattle.std.proofs.Common.{◌≡◌, ℕ, ◌<◌, ◌^◌, Bool, true, false, List, ◌∷◌, ◌++◌, drop, get_or, Option, Some, None, refl, sym, ap, ◌∙◌, arith, append_assoc, subst, inl, inr}
+use Rattle.std.specs.Prelude.{codes, decimal}
 use Rattle.std.proofs.lemmas.Bool.{cases_eq}
-use Rattle.std.proofs.lemmas.Bool.Decides.{nat_tests}
 use Rattle.std.proofs.lemmas.Fmt.{decimal_injective}
 use Rattle.std.proofs.lemmas.List.{append_cancel_left}
 use Rattle.asp_messages.specs.declared.request.Ask.{Ask}
@@ -17,14 +15,14 @@ use Rattle.asp_messages.specs.Ranges.{CookieFits}
 use Rattle.asp_messages.proofs.DecimalLemmas.{named-some}
 use Rattle.session_machine.specs.declared.entry.Deed.{Deed}
 use Rattle.session_machine.specs.declared.entry.Deed.TheVariants.{Asked, Expired, Looked}
-use Rattle.plain_words.specs.Words.{AreBytes, HasNo, SplitsAt}
+use Rattle.plain_words.specs.Words.{SplitsAt}
 use Rattle.plain_words.proofs.ByteStringLemmas.{string_injective}
 use Rattle.plain_words.proofs.SplitLemmas.{split_one}
 use Rattle.journal_text.specs.declared.content_words.Content.{Content}
 use Rattle.journal_text.specs.JournalText.{key_word, deed_words}
 use Rattle.journal_text.specs.Spelled.{IsContent, IsAsk, IsReply, IsDeed, content_words}
 use Rattle.journal_text.proofs.PhraseLemmas.{flag_no_space}
-use Rattle.journal_text.proofs.CutLemmas.{number_cut, number_no_space, nest2, nest3, nest4}
+use Rattle.journal_text.proofs.CutLemmas.{number_cut, nest2, nest4}
 
 -- ---- cookies and flags
 

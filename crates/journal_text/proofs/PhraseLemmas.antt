@@ -1,7 +1,7 @@
 -- The words of a line hold no line feed, its keys no space, and what was done and answered no colon.
 use Rattle.std.proofs.Common.{◌≡◌, ◌≢◌, ℕ, ◌+◌, ◌*◌, ◌<◌, ◌≤◌, ◌^◌, Bool, true, false, not, List, [], ◌∷◌, ◌++◌, length, Option, Some, None, refl, sym, ap, ◌∙◌, arith, length-append}
 use Rattle.std.specs.Prelude.{◌&&◌, ◌==◌, nat_le, codes, decimal}
-use Rattle.std.specs.List.{list_all, All}
+use Rattle.std.specs.List.{list_all}
 use Rattle.std.proofs.lemmas.Bool.{and_from, and_parts, both_ways}
 use Rattle.std.proofs.lemmas.Bool.Decides.{nat_tests}
 use Rattle.std.proofs.lemmas.List.Folds.{list_all-append}
@@ -13,7 +13,7 @@ use Rattle.asp_messages.specs.declared.request.Ask.TheVariants.{Read, Acquire, R
 use Rattle.asp_messages.specs.declared.reply.Reply.{Reply}
 use Rattle.asp_messages.specs.declared.reply.Reply.TheVariants.{Found, Done, Locked, Missing, Bad, KeeperFault, NoMemory, CookiesOut, PlacesOut}
 use Rattle.asp_messages.specs.PlainSpelling.{◌then◌, cookie_word, flag_word, bytes_word, ask_spelling, reply_spelling}
-use Rattle.asp_messages.specs.Ranges.{AskFits, ReplyFits, CookieFits, RequestFits, KeyFits}
+use Rattle.asp_messages.specs.Ranges.{AskFits, ReplyFits, CookieFits}
 use Rattle.asp_messages.proofs.DecimalLemmas.{decimal-short}
 use Rattle.session_machine.specs.declared.entry.Deed.{Deed}
 use Rattle.session_machine.specs.declared.entry.Deed.TheVariants.{Asked, Expired, Looked}

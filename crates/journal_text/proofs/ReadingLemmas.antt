@@ -1,7 +1,7 @@
 -- What a reader has read of a text goes on by each call.
-use Rattle.std.proofs.Common.{◌≡◌, ◌≢◌, ℕ, ◌+◌, ◌-◌, ◌<◌, ◌≤◌, Bool, true, false, List, [], ◌∷◌, ◌++◌, length, take, drop, Option, Some, None, is_some, Result, Ok, Err, OnOk, refl, sym, ap, ◌∙◌, arith, append_assoc, append-nil, length-append, length-take, subst, inl, inr, ◌⊎◌}
+use Rattle.std.proofs.Common.{◌≡◌, ◌≢◌, ℕ, ◌+◌, ◌<◌, Bool, true, false, List, [], ◌∷◌, ◌++◌, length, take, drop, Some, None, Result, Ok, Err, OnOk, refl, sym, ap, ◌∙◌, arith, append_assoc, append-nil, length-append, length-take, subst, inl, inr, ◌⊎◌}
 use Rattle.std.specs.Prelude.{codes, MatchBool, if◌then◌else◌}
-use Rattle.std.specs.List.{All, AllByRecursion, flat_map}
+use Rattle.std.specs.List.{AllByRecursion}
 use Rattle.std.proofs.lemmas.Bool.{cases_eq}
 use Rattle.std.proofs.lemmas.List.{flat_map_more}
 use Rattle.std.proofs.lemmas.List.Elements.{All-append, All-cons, All-nil}
@@ -9,9 +9,9 @@ use Rattle.session_machine.specs.declared.entry.Entry.{Entry}
 use Rattle.plain_words.specs.Words.{HasNo, SplitsAt}
 use Rattle.journal_text.specs.declared.reader.JournalNext.{JournalNext}
 use Rattle.journal_text.specs.declared.reader.JournalNext.TheVariants as nexts
-use Rattle.journal_text.specs.JournalText.{head_words, entry_words, line, head_line, entry_line, journal_text, PlaceFits, EntryFits, most_line}
+use Rattle.journal_text.specs.JournalText.{head_words, entry_words, line, head_line, entry_line, journal_text, PlaceFits, EntryFits}
 use Rattle.journal_text.specs.Next.{taken_with, IfNotAJournal}
-use Rattle.journal_text.specs.Reading.{IsLine, BeginsWrong, IsTooLong, IsNoLine, Taken, taken_text, TakenFits, StopsAt, Reading, fed, broken, HoldsRest, HasRead}
+use Rattle.journal_text.specs.Reading.{IsTooLong, IsNoLine, Taken, taken_text, StopsAt, Reading, fed, broken, HasRead}
 use Rattle.journal_text.specs.Spelled.{IsEntry}
 use Rattle.journal_text.proofs.JournalLemmas.{line_then, line_short}
 
@@ -23,10 +23,10 @@ first_feed [] = inl (All-nil (λ b. b ≢ 10))
 first_feed (b ∷ bs) = elim (cases_eq b 10) [
   | inl feed ↦ inr ([], bs, record { joined = ap (λ x. x ∷ bs) feed; first = All-nil (λ x. x ≢ 10) })
   | inr other ↦ elim (first_feed bs) [
-      | inl none ↦ inl (All-cons (λ x. x ≢ 10) b bs other none)
-      | inr (words, rest, split) ↦
-          inr (b ∷ words, rest, record { joined = ap (λ t. b ∷ t) split.joined; first = All-cons (λ x. x ≢ 10) b words other split.first })
-    ]
+    | inl none ↦ inl (All-cons (λ x. x ≢ 10) b bs other none)
+    | inr (words, rest, split) ↦
+        inr (b ∷ words, rest, record { joined = ap (λ t. b ∷ t) split.joined; first = All-cons (λ x. x ≢ 10) b words other split.first })
+  ]
 ]
 
 split_more : (text more words rest : List ℕ) → SplitsAt 10 text words rest → SplitsAt 10 (text ++ more) words (rest ++ more)
@@ -43,11 +43,16 @@ long_more is_begun text more long = elim (first_feed more) [
         joined = ap (λ t. text ++ t) split.joined ∙ sym (append_assoc text words (10 ∷ rest));
         first = All-append (λ b. b ≢ 10) text words long.0 split.first;
       } in
-      inl (text ++ words, rest, whole, λ is.
-          let short = line_short is_begun (text ++ words) is in
-          let l = length-append text words in
-          let h = long.1 in
-          omega (arith, short, l, h))
+      inl (
+        text ++ words,
+        rest,
+        whole,
+        λ is.
+            let short = line_short is_begun (text ++ words) is in
+            let l = length-append text words in
+            let h = long.1 in
+            omega (arith, short, l, h),
+      )
 ]
 
 pub no_line_more : (is_begun : Bool) (text more : List ℕ) → IsNoLine is_begun text → IsNoLine is_begun (text ++ more)

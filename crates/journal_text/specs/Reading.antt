@@ -1,5 +1,5 @@
 -- A reader of journals, as its callers see it, and where a text stops being a journal.
-use Rattle.std.specs.Prelude.{◌≡◌, ◌≢◌, ◌⊎◌, ℕ, ◌+◌, ◌<◌, ◌≤◌, List, [], ◌++◌, length, Option, Some, None, is_some, Bool, true, false, IsTrue, IsFalse, MatchBool, ⊤, if◌then◌else◌}
+use Rattle.std.specs.Prelude.{◌≡◌, ◌≢◌, ◌⊎◌, ℕ, ◌+◌, ◌<◌, List, [], ◌++◌, length, Option, Some, None, is_some, Bool, true, false, IsTrue, IsFalse, MatchBool, ⊤, if◌then◌else◌}
 use Rattle.std.specs.List.{AllByRecursion}
 use Rattle.session_machine.specs.declared.entry.Entry.{Entry}
 use Rattle.plain_words.specs.Words.{HasNo, SplitsAt}

@@ -152,6 +152,9 @@ impl JournalReader {
         ensures no_memory { result ≡ JournalNext.NoMemory → self.new ≡ self.old }
         ensures bound { length self.new.held ≤ most_held }
 
+        // It takes bytes, and adds none.
+        ensures counted { self.new.offset + length self.new.held ≤ self.old.offset + length self.old.held }
+
         // What was taken of a text grows by the answer, and where it stops, the text is no journal.
         ensures reads { (text : List ℕ) (taken : Taken) → HasRead text taken self.old → HasRead text (taken_with result taken) self.new }
         ensures stops { IfNotAJournal result (λ offset. (text : List ℕ) (taken : Taken) → HasRead text taken self.old → StopsAt text offset) }

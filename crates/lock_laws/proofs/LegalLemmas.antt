@@ -5,7 +5,7 @@ use Rattle.std.specs.List.{AllByRecursion}
 use Rattle.session_machine.specs.declared.entry.Entry.{Entry}
 use Rattle.session_machine.specs.declared.item.Item.{Item}
 use Rattle.session_machine.specs.declared.item.Hold.{Hold}
-use Rattle.session_machine.specs.History.{Marked, has_risen, marked, is_deed_of, entries_of, after_entry, after_entries, DeedStands, Lead, DrawsRise, IsHeldBelow, IsLegal, item_after, count_after}
+use Rattle.session_machine.specs.History.{Marked, has_risen, marked, is_deed_of, entries_of, after_entry, after_entries, DeedStands, IsFormed, Lead, LookStands, CountsRise, DrawsRise, IsHeldBelow, IsLegal, item_after, count_after}
 use Rattle.session_machine.proofs.HistoryLemmas.{item_after-same, item_after-other}
 use Rattle.lock_laws.specs.InForce.{Grant, granted, grant_under, grant_of, last_grant, IsGranted}
 use Rattle.lock_laws.proofs.EntryLemmas.{OneEntry, one_entry}
@@ -31,12 +31,43 @@ Lead-behind : (old : Option Item) (ms ns : List Marked) → Lead old (ms ++ ns) 
 Lead-behind old [] ns p = p
 Lead-behind old (m ∷ ms) ns p = Lead-behind (after_entry old m) ms ns p.1
 
+Lead-front : (old : Option Item) (ms ns : List Marked) → Lead old (ms ++ ns) → Lead old ms
+Lead-front old [] ns p = tt
+Lead-front old (m ∷ ms) ns p = (p.0, Lead-front (after_entry old m) ms ns p.1)
+
+All-front : {X : Type 0} (P : X → Type 0) (xs ys : List X) → AllByRecursion P (xs ++ ys) → AllByRecursion P xs
+All-front P [] ys all = tt
+All-front P (x ∷ xs) ys all = (all.0, All-front P xs ys all.1)
+
+CountsRise-front : (count : ℕ) (xs ys : List Entry) → CountsRise count (xs ++ ys) → CountsRise count xs
+CountsRise-front count [] ys p = tt
+CountsRise-front count (x ∷ xs) ys p = (p.0, CountsRise-front x.faults xs ys p.1)
+
+DrawsRise-front : (above : ℕ) (xs ys : List Entry) → DrawsRise above (xs ++ ys) → DrawsRise above xs
+DrawsRise-front above [] ys p = tt
+DrawsRise-front above (x ∷ xs) ys p = (p.0, DrawsRise-front (max above x.drawn) xs ys p.1)
+
+-- each front of a legal history is legal
+pub IsLegal-front : (opening : List ℕ → Option Item) (count : ℕ) (xs ys : List Entry) → IsLegal opening count (xs ++ ys) → IsLegal opening count xs
+IsLegal-front opening count xs ys legal = record {
+  formed = All-front IsFormed xs ys legal.formed;
+  counts = CountsRise-front count xs ys legal.counts;
+  draws = DrawsRise-front 0 xs ys legal.draws;
+  fresh_draws = All-front (λ e. 0 < e.drawn → (key : List ℕ) → IsHeldBelow e.drawn (opening key)) xs ys legal.fresh_draws;
+  keys = λ key.
+      Lead-front (opening key) (entries_of key (marked count xs)) (entries_of key (marked (count_after count xs) ys))
+      (subst (Lead (opening key)) (ap (entries_of key) (marked-append count xs ys) ∙ entries_of-append key (marked count xs) (marked (count_after count xs) ys)) (legal.keys key));
+  looks =
+      All-front (λ (e : Marked). LookStands e.0 e.1.deed e.1.reply) (marked count xs) (marked (count_after count xs) ys)
+      (subst (AllByRecursion (λ (e : Marked). LookStands e.0 e.1.deed e.1.reply)) (marked-append count xs ys) legal.looks);
+}
+
 -- whether the count rose at the place
-abbrev rose_at : ℕ → List Entry → Entry → Bool
+abbrev pub rose_at : ℕ → List Entry → Entry → Bool
 rose_at count before e = has_risen (count_after count before) e.faults
 
 -- each deed of a legal history may be done where it stands
-deed-stands : (opening : List ℕ → Option Item) (count : ℕ) (list : List Entry) (key : List ℕ) (before behind : List Entry) (e : Entry) → IsLegal opening count list
+pub deed-stands : (opening : List ℕ → Option Item) (count : ℕ) (list : List Entry) (key : List ℕ) (before behind : List Entry) (e : Entry) → IsLegal opening count list
     → list ≡ before ++ e ∷ behind → is_deed_of key e.deed ≡ true → DeedStands (item_after opening count before key) (rose_at count before e) e.deed e
 deed-stands opening count list key before behind e legal place same =
     let m : Marked = (rose_at count before e, e) in

@@ -1,4 +1,3 @@
-use Rattle.std.proofs.Common.{◌≡◌, ap}
 use Rattle.journal_text.proofs.ContentLemmas.{no_minutes, no_flag_word, no_minute, no_flag, no_body, content_made}
 use Rattle.journal_text.proofs.content_words.read_content.Goals as goal
 

@@ -1,4 +1,4 @@
-use Rattle.std.proofs.Common.{◌≡◌, ◌<◌, ◌^◌, ℕ, List, decimal, arith}
+use Rattle.std.proofs.Common.{◌<◌, ◌^◌, decimal, arith}
 use Rattle.journal_text.proofs.CutLemmas.{not_cut, cut_is_number}
 use Rattle.journal_text.proofs.number_words.cut_number.Goals as goal
 

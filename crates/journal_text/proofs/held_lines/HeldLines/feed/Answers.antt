@@ -1,4 +1,4 @@
-use Rattle.std.proofs.Common.{◌≡◌, ◌≤◌, ◌++◌, ◌-◌, List, ℕ, length, drop, sym, ap, ◌∙◌, arith, subst, length-drop, length-append}
+use Rattle.std.proofs.Common.{◌≡◌, ◌++◌, List, ℕ, length, drop, sym, ap, ◌∙◌, arith, subst, length-drop, length-append}
 use Rattle.std.specs.List.{slice_range}
 use Rattle.plain_words.specs.Words.{HasNo}
 use Rattle.journal_text.proofs.HeldLemmas.{sought_compacted}
@@ -20,6 +20,6 @@ invariant_of-self-2 c =
       omega (arith, start),
       omega (arith, inv.0, inv.1, sought, l, whole),
       subst (λ (l : List ℕ). HasNo 10 (slice_range l c.compact.new.start c.compact.new.searched)) (sym items)
-      (subst (λ i. HasNo 10 (slice_range (drop s xs ++ piece) i c.compact.new.searched)) (sym start)
-      (subst (λ j. HasNo 10 (slice_range (drop s xs ++ piece) 0 j)) (sym sought) kept)),
+          (subst (λ i. HasNo 10 (slice_range (drop s xs ++ piece) i c.compact.new.searched)) (sym start)
+          (subst (λ j. HasNo 10 (slice_range (drop s xs ++ piece) 0 j)) (sym sought) kept)),
     )

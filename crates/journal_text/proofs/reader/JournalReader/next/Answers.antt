@@ -1,4 +1,3 @@
-use Rattle.journal_text.specs.Reading.{IsNoLine}
 use Rattle.journal_text.proofs.ReadingLemmas.{entry_taken, head_taken, no_head_there, broken_no_line, broken_reads, broken_stops}
 use Rattle.journal_text.proofs.reader.JournalReader.next.Goals as goal
 

@@ -1,0 +1,30 @@
+//! Laws of lines and of the world. The functions do nothing; what they ensure holds of all texts,
+//! lines and worlds.
+ghost use Rattle.std.specs.Prelude.{◌≡◌, ◌++◌, ◌∷◌, [], ℕ, List};
+ghost use Rattle.std.specs.List.{AllByRecursion};
+ghost use Rattle.plain_words.specs.Words.{HasNo};
+ghost use Rattle.session_machine.specs.History.{nothing, IsLegal};
+ghost use Rattle.page_script.specs.declared.line.Line.{Line};
+ghost use Rattle.page_script.specs.Lines.{IsLine, LineFits};
+ghost use Rattle.page_script.specs.World.{World, history, WorldStep, Leads, IsWorldRun, IsLawfulWorld, ForcesOldLocks};
+
+/// A text spells at most one line, and none where it holds a line feed.
+pub fn one_line()
+    ensures one { (text : List ℕ) (a b : Line) → IsLine text a → IsLine text b → a ≡ b }
+    ensures no_line_feed { (text : List ℕ) (line : Line) → IsLine text line → HasNo 10 text }
+{}
+
+/// A run of the world goes on by one line.
+pub fn runs_go_on()
+    ensures { (script : List Line) (world : World) (output : List ℕ) (line : Line) (next : World) (printed : List ℕ) → IsWorldRun script world output
+        → WorldStep world line next printed → IsWorldRun (script ++ line ∷ []) next (output ++ printed) }
+{}
+
+/// In each world of a run each page follows the rule of its visit over its own past. Where the
+/// history of the run is legal, a page that releases a lock before its end met that lock, which was
+/// in force, and older than a page may run.
+pub fn pages_keep_their_rule()
+    ensures lawful { (script : List Line) (world : World) (output : List ℕ) → AllByRecursion LineFits script → IsWorldRun script world output → IsLawfulWorld world }
+    ensures forced { (script rest : List Line) (world last : World) (output more : List ℕ) → AllByRecursion LineFits script → IsWorldRun script world output
+        → Leads world rest last more → IsLegal nothing 0 (history last.turns) → ForcesOldLocks world }
+{}
