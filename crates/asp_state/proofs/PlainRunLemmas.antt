@@ -1,6 +1,7 @@
 -- What is asked and written, with one message more.
 use Rattle.std.proofs.Common.{◌≡◌, ℕ, ◌+◌, List, [], ◌∷◌, ◌++◌, length, map, refl, sym, ap, ◌∙◌, arith, append_assoc, append-nil}
 use Rattle.std.specs.List.{flat_map}
+use Rattle.std.proofs.lemmas.Grind.{flat_map-append}
 use Rattle.asp_base.specs.Moments.{step_moment}
 use Rattle.asp_messages.specs.declared.request.Message.{Message}
 use Rattle.asp_messages.specs.declared.request.Message.TheVariants.{Fit, Unfit}

@@ -1,6 +1,6 @@
 -- A run goes on by one message.
 use Rattle.std.proofs.Common.{◌≡◌, ℕ, ◌+◌, List, [], ◌∷◌, ◌++◌, length, map, Option, Bool, true, false, refl, sym, ap, ◌∙◌, arith, subst, inl, inr, append_assoc, append-nil, length-append}
-use Rattle.std.specs.Prelude.{IsTrue, ⊤}
+use Rattle.std.specs.Prelude.{◌⊎◌, IsTrue, ⊤}
 use Rattle.std.proofs.lemmas.List.{map-append}
 use Rattle.asp_base.specs.Moments.{step_moment}
 use Rattle.asp_base.specs.Outside.{Takes, TakesFront}
@@ -133,7 +133,7 @@ module _ (CanCount : ℕ → Type 0) (journal : Bool) where
       ([], Takes-nil sink, record { goes = λ pipe bytes before same run. subst (λ o. Progress CanCount pipe bytes o s) (sym (append-nil before)) run })
 
   -- what is due for the message
-  due_now : (Took : List ℕ → Type 0) (m : Message) (s s' : ServerState) → IsAnswered CanCount journal Took m s s' → List ℕ
+  abbrev due_now : (Took : List ℕ → Type 0) (m : Message) (s s' : ServerState) → IsAnswered CanCount journal Took m s s' → List ℕ
   due_now Took m s s' one = due_for journal m s.clock.next one.drawn one.reply s'.faults
 
   Goes-step : (Took : List ℕ → Type 0) (s mid s' : ServerState) (front held : List ℕ) (m : Message) (due : List ℕ)
@@ -180,7 +180,7 @@ module _ (CanCount : ℕ → Type 0) (journal : Bool) where
 
   -- a line of a journal may be lacking
   line_lacks : (j : Bool) → IsTrue j → (m : Message) (t drawn : ℕ) (reply : Reply) (faults : ℕ) → MayLack j (due_for j m t drawn reply faults)
-  line_lacks false is m t drawn reply faults = absurd (omega (arith, is))
+  line_lacks false is m t drawn reply faults = cc
   line_lacks true is (Fit r) t drawn reply faults = inr (asked_entry 0 t r drawn reply faults, refl)
   line_lacks true is Unfit t drawn reply faults = inl refl
 
@@ -193,3 +193,13 @@ module _ (CanCount : ℕ → Type 0) (journal : Bool) where
       (so_far.0, due_now (λ line. ⊤) m (record mid { held = held }) s' one, so_far.1,
       line_lacks journal is m mid.clock.next one.drawn one.reply s'.faults,
       Goes-step (λ line. ⊤) s mid s' front held m so_far.0 so_far.2 parts spells one)
+
+  -- there was no memory to answer a message, or for its line
+  pub GoesShort-unanswered : (sink sink' : Option (List ℕ)) (s mid s' : ServerState) (front held : List ℕ) (m : Message)
+      → IsTrue journal → GoesOn CanCount journal sink sink' s mid → mid.held ≡ front ++ held → SpellsRequest front m
+      → (s' ≡ record mid { held = held }) ⊎ IsAnswered CanCount journal (λ line. ⊤) m (record mid { held = held }) s'
+      → (rest : List ℕ) × GoesShort CanCount journal sink sink' s (record s' { held = rest })
+  GoesShort-unanswered sink sink' s mid s' front held m is so_far parts spells (inl same) =
+      (mid.held, subst (λ (x : ServerState). GoesShort CanCount journal sink sink' s (record x { held = mid.held })) (sym same) (GoesShort-none sink sink' s mid so_far))
+  GoesShort-unanswered sink sink' s mid s' front held m is so_far parts spells (inr one) =
+      (s'.held, GoesShort-line sink sink' s mid s' front held m is so_far parts spells one)

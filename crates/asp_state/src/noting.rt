@@ -37,8 +37,10 @@ pub fn begin<T: Sink>(journal: bool, sink: &mut T) -> Result<(), Failed>
     ensures in_part { OnErr result (TakesFront (T.taken sink.old) (T.taken sink.new) (output journal [] [])) }
     ensures cause { HasCause (T.faults sink.old) (T.faults sink.new) result }
 {
-    let text: &[u8] = if journal { FIRST_LINE } else { b"" };
-    write_whole(sink, text)
+    if journal {
+        return write_whole(sink, FIRST_LINE);
+    }
+    Ok(())
 }
 
 fn copy_ask(alloc: Global, ask: &Ask) -> Result<Ask, NoMemory>
