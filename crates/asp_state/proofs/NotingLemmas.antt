@@ -1,5 +1,5 @@
 -- The line of an answered request.
-use Rattle.std.proofs.Common.{◌≡◌, ℕ, List, [], ◌∷◌, ◌++◌, Bool, true, Option, Result, Ok, Err, sym, ap, ◌∙◌, subst, arith, ◌<◌}
+use Rattle.std.proofs.Common.{◌≡◌, ℕ, List, [], ◌∷◌, ◌++◌, Bool, true, Option, Result, Ok, Err, refl, sym, ap, ◌∙◌, subst, arith, ◌<◌}
 use Rattle.std.specs.Prelude.{MatchResult, OnOk, OnErr, codes}
 use Rattle.std.proofs.lemmas.Fmt.{decimal_digit}
 use Rattle.asp_base.specs.Outside.{Takes, TakesFront}
@@ -51,3 +51,8 @@ pub begun : {E : Type 0} (r : Result (Unit {0}) E) (a b : Option (List ℕ)) (te
     → OnOk r (Takes a b (output journal [] [])) × OnErr r (TakesFront a b (output journal [] []))
 begun (Ok x) a b text journal is same taken = (subst (Takes a b) (same ∙ ap (λ j. output j [] []) (sym is)) taken, tt)
 begun (Err e) a b text journal is same taken = (tt, subst (TakesFront a b) (same ∙ ap (λ j. output j [] []) (sym is)) taken)
+
+-- what holds where a call failed
+pub not_begun : {E : Type 0} (r : Result (Unit {0}) E) {P : Type 0} → ((x : Unit {0}) → r ≡ Ok x → ⊥) → OnErr r P → P
+not_begun (Ok x) not_ok on_err = absurd (not_ok x refl)
+not_begun (Err e) not_ok on_err = on_err

@@ -52,9 +52,9 @@ pub fn run<S: Source, T: Sink, K: Keeper>(
     ensures write { result ≡ End.WriteFault → Rose (T.faults sink.old) (T.faults sink.new) }
     ensures floor { K.floor server.new.desk.keeper ≡ K.floor server.old.desk.keeper }
 {
-    if begin(pipe.journal, sink).is_err() {
+    let Ok(()) = begin(pipe.journal, sink) else {
         return End::WriteFault;
-    }
+    };
     let mut left = pipe.most;
     while left > 0 {
         match take_piece(source, &mut server.stream, left) {

@@ -6,7 +6,8 @@ use Rattle.asp_messages.proofs.RequestLemmas.{none_in_nothing}
 use Rattle.message_framing.specs.Held.{Held}
 use Rattle.stream_core.specs.Connection.{Connection}
 use Rattle.asp_state.specs.Progress.{state_of}
-use Rattle.asp_state.proofs.EndingLemmas.{Running-start, ended-unfed, fed_is, turn-on, turn-no_memory, turn-write, turn-long, turn-badly, stop-badly, stop-whole, stop-read, ended-long}
+use Rattle.asp_state.proofs.NotingLemmas.{not_begun}
+use Rattle.asp_state.proofs.EndingLemmas.{ended-unbegun, Running-start, ended-unfed, fed_is, turn-on, turn-no_memory, turn-write, turn-long, turn-badly, stop-badly, stop-whole, stop-read, ended-long}
 use Rattle.asp_state.proofs.running.run.Goals as goal
 
 pub loop-left-init : goal.loop-left-init
@@ -14,14 +15,23 @@ loop-left-init g c =
     let reader = ap (λ (s : Connection). s.reader) c.requires.stream in
     let held = ap (λ (r : Held). r.held) reader in
     record {
-      running = Running-start _ c.args.pipe _ _ _ c.requires.pipe held c.requires.stands c.requires.cookies c.requires.clock;
+      running = Running-start g.K.Keeper.can_count c.args.pipe (g.S.Source.told c.args.source.now) (g.T.Sink.taken c.args.sink.now) (g.T.Sink.taken c.begin.new.sink)
+          (state_of c.args.server.now (g.K.Keeper.told c.args.server.now.desk.keeper) (g.K.Keeper.count c.args.server.now.desk.keeper))
+          c.requires.pipe held c.requires.stands c.requires.cookies c.requires.clock c.in-Ok.ensures.taken;
       may_feed = ap (λ (r : Held). r.may_feed) reader;
       whole = ap (λ (r : Held). r.is_broken) reader;
       none = subst (HasNoMessage SpellsRequest) (sym held) none_in_nothing;
       reads = omega arith;
-      writes = omega arith;
+      writes = c.begin.ensures.cause.later;
       floor = refl;
     }
+
+pub returns-in_default-clause-ran : goal.returns-in_default-clause-ran
+returns-in_default-clause-ran g c =
+    let reader = ap (λ (s : Connection). s.reader) c.requires.stream in
+    ended-unbegun g.K.Keeper.can_count c.args.pipe (g.S.Source.told c.args.source.now) (g.T.Sink.taken c.args.sink.now) (g.T.Sink.taken c.begin.new.sink)
+    (state_of c.args.server.now (g.K.Keeper.told c.args.server.now.desk.keeper) (g.K.Keeper.count c.args.server.now.desk.keeper))
+    (ap (λ (r : Held). r.held) reader) c.requires.stands (not_begun c.begin.result c.in_default.not-Ok c.begin.ensures.in_part)
 
 pub returns-in-End-clause-ran : goal.returns-in-End-clause-ran
 returns-in-End-clause-ran g c =
@@ -94,7 +104,7 @@ returns-in-NoMemory-answer_held-clause-ran g c =
     c.in-Fed.ensures.fed.2.0 c.loop-left.left (c.loop-left.left - c.in-Fed.count) c.loop-left.invariant.running
     (ap (λ (h : List ℕ). record (state_of c.loop-left.server (g.K.Keeper.told c.loop-left.server.desk.keeper) (g.K.Keeper.count c.loop-left.server.desk.keeper)) { held = h }) (fed_is c.loop-left.server.stream c.take_piece.new.stream c.in-Fed.ensures.fed.2.0 c.in-Fed.ensures.fed.2.3 c.loop-left.invariant.whole))
     c.in-Fed.ensures.fed.2.2 (omega (arith, c.in-Fed.ensures.fed.1, c.in-Fed.ensures.fed.2.1))
-    (c.in-NoMemory-answer_held.ensures.no_memory refl)
+    (c.in-NoMemory-answer_held.ensures.no_memory refl).0 (c.in-NoMemory-answer_held.ensures.no_memory refl).1
 
 pub returns-in-WriteFault-clause-ran : goal.returns-in-WriteFault-clause-ran
 returns-in-WriteFault-clause-ran g c =
