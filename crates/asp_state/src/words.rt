@@ -35,7 +35,7 @@ pub enum Command {
 fn run_of(journal: bool, start: &str, step: &str, first: &str) -> Option<Command>
     ensures fits { IfSome result (λ command. IfPipe command PipeFits) }
     ensures load { IfSome result (λ command. IfLoad command (λ load. ⊥)) }
-    ensures value { result ≡ run_of journal (string_bytes start.now) (string_bytes step.now) (string_bytes first.now) }
+    ensures value { result ≡ run_of journal start.now step.now first.now }
 {
     let start = read_number(start.as_bytes(), LAST_MOMENT)?;
     let step = read_number(step.as_bytes(), LAST_MOMENT)?;
@@ -62,11 +62,13 @@ fn pipe_of(words: &[String]) -> Option<Command>
     let [name, start, step, first] = words else {
         return None;
     };
-    match name.as_str() {
-        "pipe" => run_of(false, start, step, first),
-        "trace" => run_of(true, start, step, first),
-        _ => None,
+    if name.as_str() == "pipe" {
+        return run_of(false, start, step, first);
     }
+    if name.as_str() == "trace" {
+        return run_of(true, start, step, first);
+    }
+    None
 }
 
 /// The numbers of `load N SEED`, where each is in its range.
