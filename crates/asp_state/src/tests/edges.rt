@@ -16,28 +16,46 @@ fn words_of(alloc: Global, words: &[&str]) -> Result<Vec<String>, Fail> {
     Ok(given)
 }
 
+/// Whether the status of these words is 2, with nothing read or written.
+fn are_no_command(alloc: Global, words: &[&str]) -> Result<bool, Fail> {
+    let given = words_of(alloc, words)?;
+    let mut input = source(alloc, WRITE_AND_READ, 16_384, &[])?;
+    let mut output = sink(alloc, &[])?;
+    let ran = command(
+        alloc,
+        &given,
+        &mut input,
+        &mut output,
+        ListKeeper::new(alloc),
+    );
+    let mut unread = [0; 4];
+    let len = input.read(&mut unread);
+    Ok(
+        ran.status == 2
+            && output.taken().is_empty()
+            && len == Ok(4)
+            && unread.as_slice() == b"PUT ".as_slice(),
+    )
+}
+
 #[test]
 fn numbers_out_of_range_are_no_command(rt: HostRuntime) -> Result<(), Fail> {
-    let alloc = rt.alloc();
     for (start, first) in [
         ("0", "0"),
         ("0", "9223372036854775808"),
         ("4611686018427387905", "1"),
         ("x", "1"),
     ] {
-        let given = words_of(alloc, &["pipe", start, "1000", first])?;
-        let mut input = source(alloc, WRITE_AND_READ, 16_384, &[])?;
-        let mut output = sink(alloc, &[])?;
-        let ran = command(
-            alloc,
-            &given,
-            &mut input,
-            &mut output,
-            ListKeeper::new(alloc),
-        );
-        assert_eq!(rt; ran.status, 2);
-        assert_eq!(rt; output.taken(), b"".as_slice());
+        let refused = are_no_command(rt.alloc(), &["pipe", start, "1000", first])?;
+        assert!(rt; refused, "pipe {start} 1000 {first}");
     }
+    Ok(())
+}
+
+#[test]
+fn words_and_digits_that_are_missing_are_no_command(rt: HostRuntime) -> Result<(), Fail> {
+    assert!(rt; are_no_command(rt.alloc(), &["pipe"])?);
+    assert!(rt; are_no_command(rt.alloc(), &["id", "00"])?);
     Ok(())
 }
 

@@ -137,7 +137,9 @@ step 222001 e",
         &mut out,
     );
     assert_eq!(rt; end, LineEnd::Done);
-    assert_eq!(rt; out.as_slice(), b"0 c acquire : missing
+    assert_eq!(rt;
+        out.as_slice(),
+        b"0 c acquire : missing
 0 c run none
 0 c write 0 20 0 x31 : done
 0 a acquire : found 2 20 0 x31
@@ -152,7 +154,8 @@ step 222001 e",
 222001 e release 5 : done
 222001 e acquire : found 8 20 0 x31
 "
-    .as_slice());
+            .as_slice()
+    );
 }
 
 #[test]
@@ -160,10 +163,16 @@ fn a_step_of_no_page_is_no_line(rt: HostRuntime) {
     let alloc = rt.alloc();
     let mut out = Vec::new(alloc);
     let mut script = Script::new(alloc, ListKeeper::new(alloc));
-    assert_eq!(rt; script.line(b"page a x2f73 off keep", &mut out), LineEnd::Done);
+    assert_eq!(rt;
+        script.line(b"page a x2f73 off keep", &mut out),
+        LineEnd::Done
+    );
     assert_eq!(rt; script.line(b"step 0 a", &mut out), LineEnd::Done);
     assert_eq!(rt; script.line(b"step 0 z", &mut out), LineEnd::NotALine);
-    assert_eq!(rt; script.line(b"page a x2f73 off keep", &mut out), LineEnd::NotALine);
+    assert_eq!(rt;
+        script.line(b"page a x2f73 off keep", &mut out),
+        LineEnd::NotALine
+    );
     assert_eq!(rt; script.line(b"", &mut out), LineEnd::NotALine);
     assert_eq!(rt; out.as_slice(), b"0 a reset : missing\n".as_slice());
 }
