@@ -1,11 +1,12 @@
 //! Whole runs, from bytes to bytes. Expected replies are in the plain spelling, one a line.
-ghost use Rattle.std.specs.Prelude.{◌≡◌, false};
 ghost use Rattle.asp_state.specs.Run.{PipeFits};
 
 mod edges;
 mod endings;
 mod exchanges;
 mod heads;
+mod journals;
+mod loads;
 
 use crate::pipe::Pipe;
 use crate::runs::run_pipe;
@@ -51,8 +52,7 @@ fn sink(alloc: Global, fails: &[u64]) -> Result<MemorySink, Fail> {
 
 /// The status of a run over the text in pieces, and the bytes that it wrote.
 fn run_text(alloc: Global, pipe: Pipe, text: &[u8], piece: u64) -> Result<(u8, MemorySink), Fail>
-    requires fits { PipeFits pipe }
-    requires journal { pipe.journal ≡ false }
+    requires { PipeFits pipe }
 {
     let mut input = source(alloc, text, piece, &[])?;
     let mut output = sink(alloc, &[])?;

@@ -8,7 +8,7 @@ use std::io::{self, Cursor, Read, Write};
 use std::test::Fail;
 
 /// The words as the command line gives them.
-fn words_of(alloc: Global, words: &[&str]) -> Result<Vec<String>, Fail> {
+pub fn words_of(alloc: Global, words: &[&str]) -> Result<Vec<String>, Fail> {
     let mut given = Vec::new(alloc);
     for word in words {
         given.push(String::from_str(alloc, word)?)?;

@@ -1,0 +1,67 @@
+//! Journals of whole runs.
+use super::{PIPE, WRITE_AND_READ, joined, run_text, sink, source};
+use crate::pipe::Pipe;
+use crate::runs::run_pipe;
+use keeper::{FaultyKeeper, ListKeeper};
+use std::test::Fail;
+
+/// The settings of `trace 0 1000 1`.
+const TRACE: Pipe = Pipe {
+    journal: true,
+    ..PIPE
+};
+
+const HEAD: &[u8] = b"asp-journal 1 0\n";
+
+#[test]
+fn requests_have_their_lines(rt: HostRuntime) -> Result<(), Fail> {
+    let alloc = rt.alloc();
+    for (text, status, lines) in [
+        (b"".as_slice(), 0, b"".as_slice()),
+        (
+            WRITE_AND_READ,
+            0,
+            b"0 0 0 0 x2f61 write 0 20 0 x78 : done\n0 1000 0 0 x2f61 read : found 0 20 0 x78\n".as_slice(),
+        ),
+        (
+            b"POST /a HTTP/1.1\r\n\r\nGET /a HTTP/1.1\r\nExclusive: acquire\r\n\r\nHEAD /b HTTP/1.1\r\n\r\nGET".as_slice(),
+            3,
+            b"0 1000 0 1 x2f61 acquire : missing\n0 2000 0 0 x2f62 reset : missing\n".as_slice(),
+        ),
+    ] {
+        for piece in [1, 7, 16_384] {
+            let (ended, output) = run_text(alloc, TRACE, text, piece)?;
+            assert_eq!(rt; ended, status);
+            assert_eq!(rt; output.taken(), joined(alloc, HEAD, lines)?.as_slice());
+        }
+    }
+    Ok(())
+}
+
+#[test]
+fn a_fault_of_the_keeper_is_counted_in_each_line(rt: HostRuntime) -> Result<(), Fail> {
+    let alloc = rt.alloc();
+    let mut fails = Vec::new(alloc);
+    fails.push(1)?;
+    let keeper = FaultyKeeper::new(ListKeeper::new(alloc), fails);
+    let mut input = source(alloc, WRITE_AND_READ, 16_384, &[])?;
+    let mut output = sink(alloc, &[])?;
+    let ran = run_pipe(alloc, TRACE, &mut input, &mut output, keeper);
+    let lines = b"0 0 1 0 x2f61 write 0 20 0 x78 : keeper-fault\n0 1000 1 0 x2f61 read : missing\n";
+    assert_eq!(rt; ran.status, 0);
+    assert_eq!(rt; output.taken(), joined(alloc, HEAD, lines)?.as_slice());
+    Ok(())
+}
+
+#[test]
+fn a_sink_that_fails_ends_a_journal(rt: HostRuntime) -> Result<(), Fail> {
+    let alloc = rt.alloc();
+    for (call, text) in [(0, b"".as_slice()), (1, HEAD)] {
+        let mut input = source(alloc, WRITE_AND_READ, 16_384, &[])?;
+        let mut output = sink(alloc, &[call])?;
+        let ran = run_pipe(alloc, TRACE, &mut input, &mut output, ListKeeper::new(alloc));
+        assert_eq!(rt; ran.status, 5);
+        assert_eq!(rt; output.taken(), text);
+    }
+    Ok(())
+}
