@@ -52,7 +52,8 @@ impl Checker {
         }
     }
 
-    /// Takes the next entry, of at most 2^63 - 1. After `NoMemory` nothing has changed.
+    /// Takes the next entry, which is in range; it has taken fewer than 2^63 - 1. After `NoMemory`
+    /// nothing has changed.
     pub fn take(&mut self, entry: Entry) -> Result<(), NoMemory>
         requires few { self.old.taken < 2 ^ 63 - 1 }
         requires entry { IsFormed entry }
