@@ -4,9 +4,7 @@ use Rattle.std.specs.Prelude.{◌≢◌}
 use Rattle.asp_base.specs.Moments.{step_moment}
 use Rattle.asp_base.specs.Outside.{Takes, TakesFront, Gives, IsAtEnd}
 use Rattle.asp_base.proofs.OutsideLemmas.{Takes-trans, TakesFront-after, Gives-nil, Gives-trans}
-use Rattle.asp_messages.specs.declared.reply.Reply.TheVariants as replies
 use Rattle.asp_messages.specs.Fields.{most_cookie}
-use Rattle.asp_messages.specs.ReplyText.{reply_text}
 use Rattle.asp_messages.specs.RequestSpelling.{SpellsRequest}
 use Rattle.asp_messages.specs.Stream.{HasNoMessage, IsHopeless}
 use Rattle.asp_messages.proofs.StreamLemmas.{Spelled-append}

@@ -1,5 +1,5 @@
 -- The line of an answered request.
-use Rattle.std.proofs.Common.{◌≡◌, ℕ, List, [], ◌∷◌, ◌++◌, Bool, true, Option, Result, Ok, Err, refl, sym, ap, ◌∙◌, subst, arith, ◌<◌}
+use Rattle.std.proofs.Common.{◌≡◌, ℕ, List, [], ◌∷◌, ◌++◌, Bool, true, Option, Result, Ok, Err, refl, sym, ap, ◌∙◌, subst, arith}
 use Rattle.std.specs.Prelude.{MatchResult, OnOk, OnErr, codes}
 use Rattle.std.proofs.lemmas.Fmt.{decimal_digit}
 use Rattle.asp_base.specs.Outside.{Takes, TakesFront}
@@ -20,8 +20,8 @@ pub noted : (CanCount : ℕ → Type 0) (Took : List ℕ → Type 0) (old new : 
     → t ≡ old.clock.next → copy ≡ r → faults ≡ new.faults → Took (entry_line (asked_entry 0 t copy drawn reply faults))
     → Ticks old.clock new.clock → new.held ≡ old.held
     → ((first : ℕ) (list : List Entry) → DeskStandsFor CanCount first nothing 0 list old.told old.faults old.cookies
-        → (drawn ≡ draw_of first old.cookies.last (draws_in list) r.ask)
-        × DeskStandsFor CanCount first nothing 0 (list ++ asked_entry 0 t r drawn reply new.faults ∷ []) new.told new.faults new.cookies)
+    → (drawn ≡ draw_of first old.cookies.last (draws_in list) r.ask)
+    × DeskStandsFor CanCount first nothing 0 (list ++ asked_entry 0 t r drawn reply new.faults ∷ []) new.told new.faults new.cookies)
     → new.cookies.last ≡ old.cookies.last
     → IsAnswered CanCount true Took (Fit r) old new
 noted CanCount Took old new r copy t drawn faults reply moment same count took ticks held history last = record {
@@ -35,7 +35,7 @@ noted CanCount Took old new r copy t drawn faults reply moment same count took t
   replies = record {
     history = λ first list stand.
         subst (λ (m : ℕ). (drawn ≡ draw_of first old.cookies.last (draws_in list) r.ask)
-            × DeskStandsFor CanCount first nothing 0 (list ++ asked_entry 0 m r drawn reply new.faults ∷ []) new.told new.faults new.cookies) moment (history first list stand);
+        × DeskStandsFor CanCount first nothing 0 (list ++ asked_entry 0 m r drawn reply new.faults ∷ []) new.told new.faults new.cookies) moment (history first list stand);
     last = last;
   };
   held = held;

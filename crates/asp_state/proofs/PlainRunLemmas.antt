@@ -13,7 +13,7 @@ use Rattle.session_machine.specs.declared.entry.Entry.{Entry}
 use Rattle.session_machine.specs.declared.entry.Deed.TheVariants.{Asked}
 use Rattle.desk.specs.Draws.{draws, draw_of, deed_draws, draws_in}
 use Rattle.journal_text.specs.JournalText.{entry_line, head_line, journal_text}
-use Rattle.asp_state.specs.PlainRun.{Asking, asking_of, askings, written, output}
+use Rattle.asp_state.specs.PlainRun.{Asking, asking_of, askings, written}
 use Rattle.asp_state.specs.Progress.{total_draws}
 
 pub askings-push : (start step first k j : ℕ) (ms : List Message) (m : Message)

@@ -151,11 +151,11 @@ module _ (CanCount : ℕ → Type 0) (journal : Bool) where
           → Progress CanCount pipe bytes (before ++ (due ++ due_now Took m (record mid { held = held }) s' one)) s'
       by_journal pipe bytes before same =
           subst (λ (j : Bool). (one : IsAnswered CanCount j Took m (record mid { held = held }) s')
-              → Progress CanCount pipe bytes (before ++ due) (record mid { held = front ++ s'.held })
-              → Progress CanCount pipe bytes (before ++ (due ++ due_for j m mid.clock.next one.drawn one.reply s'.faults)) s') same
+          → Progress CanCount pipe bytes (before ++ due) (record mid { held = front ++ s'.held })
+          → Progress CanCount pipe bytes (before ++ (due ++ due_for j m mid.clock.next one.drawn one.reply s'.faults)) s') same
           (λ one run.
-              subst (λ o. Progress CanCount pipe bytes o s') (append_assoc before due (due_for pipe.journal m mid.clock.next one.drawn one.reply s'.faults))
-              (answered CanCount pipe bytes (before ++ due) front Took (record mid { held = held }) s' m one spells run))
+          subst (λ o. Progress CanCount pipe bytes o s') (append_assoc before due (due_for pipe.journal m mid.clock.next one.drawn one.reply s'.faults))
+          (answered CanCount pipe bytes (before ++ due) front Took (record mid { held = held }) s' m one spells run))
 
   pub GoesOn-step : (sink sink' sink'' : Option (List ℕ)) (s mid s' : ServerState) (front held : List ℕ) (m : Message)
       → GoesOn CanCount journal sink sink' s mid → mid.held ≡ front ++ held → SpellsRequest front m
@@ -189,10 +189,13 @@ module _ (CanCount : ℕ → Type 0) (journal : Bool) where
       → IsTrue journal → GoesOn CanCount journal sink sink' s mid → mid.held ≡ front ++ held → SpellsRequest front m
       → IsAnswered CanCount journal (λ line. ⊤) m (record mid { held = held }) s'
       → GoesShort CanCount journal sink sink' s s'
-  GoesShort-line sink sink' s mid s' front held m is so_far parts spells one =
-      (so_far.0, due_now (λ line. ⊤) m (record mid { held = held }) s' one, so_far.1,
-      line_lacks journal is m mid.clock.next one.drawn one.reply s'.faults,
-      Goes-step (λ line. ⊤) s mid s' front held m so_far.0 so_far.2 parts spells one)
+  GoesShort-line sink sink' s mid s' front held m is so_far parts spells one = (
+    so_far.0,
+    due_now (λ line. ⊤) m (record mid { held = held }) s' one,
+    so_far.1,
+    line_lacks journal is m mid.clock.next one.drawn one.reply s'.faults,
+    Goes-step (λ line. ⊤) s mid s' front held m so_far.0 so_far.2 parts spells one,
+  )
 
   -- there was no memory to answer a message, or for its line
   pub GoesShort-unanswered : (sink sink' : Option (List ℕ)) (s mid s' : ServerState) (front held : List ℕ) (m : Message)

@@ -59,7 +59,13 @@ fn a_sink_that_fails_ends_a_journal(rt: HostRuntime) -> Result<(), Fail> {
     for (call, text) in [(0, b"".as_slice()), (1, HEAD)] {
         let mut input = source(alloc, WRITE_AND_READ, 16_384, &[])?;
         let mut output = sink(alloc, &[call])?;
-        let ran = run_pipe(alloc, TRACE, &mut input, &mut output, ListKeeper::new(alloc));
+        let ran = run_pipe(
+            alloc,
+            TRACE,
+            &mut input,
+            &mut output,
+            ListKeeper::new(alloc),
+        );
         assert_eq!(rt; ran.status, 5);
         assert_eq!(rt; output.taken(), text);
     }

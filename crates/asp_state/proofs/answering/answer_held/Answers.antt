@@ -3,7 +3,7 @@ use Rattle.asp_messages.specs.RequestSpelling.{SpellsRequest}
 use Rattle.asp_messages.specs.Stream.{HasNoMessage}
 use Rattle.asp_messages.proofs.RequestLemmas.{spelling_some}
 use Rattle.message_framing.specs.Held.{Held}
-use Rattle.asp_state.proofs.ProgressLemmas.{GoesOn-refl, GoesOn-step, GoesOn-part, GoesShort-none, GoesShort-line, GoesShort-unanswered, fit_of_spelling}
+use Rattle.asp_state.proofs.ProgressLemmas.{GoesOn-refl, GoesOn-step, GoesOn-part, GoesShort-none, GoesShort-unanswered, fit_of_spelling}
 use Rattle.asp_state.specs.declared.server.Server.{Server}
 use Rattle.asp_state.specs.Progress.{state_of, GoesShort}
 use Rattle.asp_state.proofs.answering.answer_held.Goals as goal
@@ -45,17 +45,19 @@ returns-in-WriteFault-clause-in_part g c = λ _.
     c.loop-message.invariant.goes took.held took.spells (c.in-WriteFault.ensures.in_part refl)
 
 pub returns-in-NoMemory-clause-no_memory : goal.returns-in-NoMemory-clause-no_memory
-returns-in-NoMemory-clause-no_memory g c = λ _. (c.loop-message.server.stream.reader.held,
-    GoesShort-none g.K.Keeper.can_count c.args.journal (g.T.Sink.taken c.args.sink.now) (g.T.Sink.taken c.loop-message.sink) (state_of c.args.server.now (g.K.Keeper.told c.args.server.now.desk.keeper) (g.K.Keeper.count c.args.server.now.desk.keeper)) (state_of c.loop-message.server (g.K.Keeper.told c.loop-message.server.desk.keeper) (g.K.Keeper.count c.loop-message.server.desk.keeper)) c.loop-message.invariant.goes)
+returns-in-NoMemory-clause-no_memory g c = λ _. (
+  c.loop-message.server.stream.reader.held,
+  GoesShort-none g.K.Keeper.can_count c.args.journal (g.T.Sink.taken c.args.sink.now) (g.T.Sink.taken c.loop-message.sink) (state_of c.args.server.now (g.K.Keeper.told c.args.server.now.desk.keeper) (g.K.Keeper.count c.args.server.now.desk.keeper)) (state_of c.loop-message.server (g.K.Keeper.told c.loop-message.server.desk.keeper) (g.K.Keeper.count c.loop-message.server.desk.keeper)) c.loop-message.invariant.goes,
+)
 
 pub returns-in-NoMemory-answer_one-clause-no_memory : goal.returns-in-NoMemory-answer_one-clause-no_memory
 returns-in-NoMemory-answer_one-clause-no_memory g c = λ _.
     let took = c.in-Message.ensures.message in
     let none = c.in-NoMemory-answer_one.ensures.no_memory refl in
     let rest =
-        GoesShort-unanswered g.K.Keeper.can_count c.args.journal (g.T.Sink.taken c.args.sink.now) (g.T.Sink.taken c.loop-message.sink) (state_of c.args.server.now (g.K.Keeper.told c.args.server.now.desk.keeper) (g.K.Keeper.count c.args.server.now.desk.keeper)) (state_of c.loop-message.server (g.K.Keeper.told c.loop-message.server.desk.keeper) (g.K.Keeper.count c.loop-message.server.desk.keeper)) (state_of c.answer_one.new.server (g.K.Keeper.told c.answer_one.new.server.desk.keeper) (g.K.Keeper.count c.answer_one.new.server.desk.keeper))
-        took.front c.next.new.self.reader.held c.in-Message.message none.0 c.loop-message.invariant.goes took.held took.spells
-        (⊎_elim (λ same. inl (ap (λ (x : Server _). state_of x (g.K.Keeper.told x.desk.keeper) (g.K.Keeper.count x.desk.keeper)) same)) (λ one. inr one) none.2) in
+    GoesShort-unanswered g.K.Keeper.can_count c.args.journal (g.T.Sink.taken c.args.sink.now) (g.T.Sink.taken c.loop-message.sink) (state_of c.args.server.now (g.K.Keeper.told c.args.server.now.desk.keeper) (g.K.Keeper.count c.args.server.now.desk.keeper)) (state_of c.loop-message.server (g.K.Keeper.told c.loop-message.server.desk.keeper) (g.K.Keeper.count c.loop-message.server.desk.keeper)) (state_of c.answer_one.new.server (g.K.Keeper.told c.answer_one.new.server.desk.keeper) (g.K.Keeper.count c.answer_one.new.server.desk.keeper))
+    took.front c.next.new.self.reader.held c.in-Message.message none.0 c.loop-message.invariant.goes took.held took.spells
+    (⊎_elim (λ same. inl (ap (λ (x : Server _). state_of x (g.K.Keeper.told x.desk.keeper) (g.K.Keeper.count x.desk.keeper)) same)) (λ one. inr one) none.2) in
     subst (λ (k : _). (rest : List ℕ) × GoesShort g.K.Keeper.can_count c.args.journal (g.T.Sink.taken c.args.sink.now) (g.T.Sink.taken k) (state_of c.args.server.now (g.K.Keeper.told c.args.server.now.desk.keeper) (g.K.Keeper.count c.args.server.now.desk.keeper)) (record (state_of c.answer_one.new.server (g.K.Keeper.told c.answer_one.new.server.desk.keeper) (g.K.Keeper.count c.answer_one.new.server.desk.keeper)) { held = rest })) (sym none.1) rest
 
 pub returns-in-More-clause-waits : goal.returns-in-More-clause-waits

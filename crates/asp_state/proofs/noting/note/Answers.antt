@@ -1,4 +1,4 @@
-use Rattle.std.proofs.Common.{◌≡◌, true, refl, ap, arith, ◌≤◌, sym, subst, ◌∙◌}
+use Rattle.std.proofs.Common.{true, refl, ap, arith, sym, subst}
 use Rattle.asp_base.proofs.OutsideLemmas.{Takes-nil}
 use Rattle.asp_messages.specs.declared.reply.Reply.TheVariants as replies
 use Rattle.asp_messages.specs.declared.request.Message.{Message}
@@ -9,8 +9,8 @@ use Rattle.asp_state.proofs.noting.note.Goals as goal
 pub returns-in-Unfit-clause-done : goal.returns-in-Unfit-clause-done
 returns-in-Unfit-clause-done g c = λ done.
     subst (λ (m : Message). IsAnswered g.K.Keeper.can_count true (Takes (g.T.Sink.taken c.args.sink.now) (g.T.Sink.taken c.args.sink.now)) m
-        (state_of c.args.server.now (g.K.Keeper.told c.args.server.now.desk.keeper) (g.K.Keeper.count c.args.server.now.desk.keeper))
-        (state_of (record c.args.server.now { clock = c.tick.new.self }) (g.K.Keeper.told c.args.server.now.desk.keeper) (g.K.Keeper.count c.args.server.now.desk.keeper)))
+    (state_of c.args.server.now (g.K.Keeper.told c.args.server.now.desk.keeper) (g.K.Keeper.count c.args.server.now.desk.keeper))
+    (state_of (record c.args.server.now { clock = c.tick.new.self }) (g.K.Keeper.told c.args.server.now.desk.keeper) (g.K.Keeper.count c.args.server.now.desk.keeper)))
     (sym c.in-Unfit.is)
     (record {
       reply = replies.Bad;
