@@ -1,5 +1,5 @@
 -- Inside a replay: where it stands between two lines.
-use Rattle.std.specs.Prelude.{◌≡◌, ℕ, ◌+◌, ◌≤◌, ◌^◌, List, ◌++◌, length, Option, Some, None, IsTrue, IsFalse, ⊤}
+use Rattle.std.specs.Prelude.{◌≡◌, ℕ, ◌+◌, ◌<◌, ◌≤◌, ◌^◌, List, ◌++◌, length, Option, Some, None, IsTrue, IsFalse, ⊤}
 use Rattle.asp_base.specs.Outside.{Gives, Takes, TakesFront}
 use Rattle.plain_words.specs.Words.{HasNo}
 use Rattle.journal_text.specs.declared.judgement.Judgement.{Judgement}
@@ -10,6 +10,8 @@ use Rattle.journal_text.specs.Reading.{Reading, StopsAt, Taken, HasRead}
 use Rattle.journal_replay.specs.declared.endings.End.{End}
 use Rattle.journal_replay.specs.declared.endings.End.TheVariants as ends
 use Rattle.journal_replay.specs.declared.lines.Replaying.{Replaying}
+use Rattle.journal_replay.specs.declared.lines.Stop.{Stop}
+use Rattle.journal_replay.specs.declared.lines.Stop.TheVariants as stops
 
 -- ---- lines
 
@@ -43,6 +45,18 @@ pub record Waits (r : Reading) : Type 0 where
   pub unfinished : HasNo 10 r.held
   pub short : length r.held ≤ most_line
 
+-- A line was taken from those held.
+pub record TookLine (old new : Replaying) : Type 0 where
+  pub goes : GoesOn old new
+  pub whole : IsFalse new.reader.is_broken
+  pub fewer : length new.reader.held < length old.reader.held
+
+-- what holds where no more lines are taken
+abbrev pub StopsSo : Stop → Replaying → Replaying → Type 0
+StopsSo stops.More old new = GoesOn old new × Waits new.reader
+StopsSo (stops.NotAJournal offset) old new = StopsFor old offset
+StopsSo stops.NoMemory old new = ⊤
+
 -- ---- the loop
 
 -- A replay up to now: these bytes were taken and replayed, and so many may still be taken.
@@ -58,6 +72,13 @@ pub record Running (most : ℕ) (source source' : Option (List ℕ × List ℕ))
 abbrev pub end_of : Judgement → End
 end_of (Legal entries) = ends.Legal
 end_of (Illegal place why) = ends.Illegal
+
+-- this ending comes with a line that tells what was found
+abbrev pub HasLine : End → Type 0
+HasLine ends.Legal = ⊤
+HasLine ends.Illegal = ⊤
+HasLine ends.NotAJournal = ⊤
+HasLine end = ⊥
 
 -- the line was written and it ended as is due, or a front of it was, or nothing
 abbrev pub Tells : End → List ℕ → End → Option (List ℕ) → Option (List ℕ) → Type 0

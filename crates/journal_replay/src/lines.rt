@@ -1,8 +1,6 @@
 //! The lines that are held, read and checked.
-ghost use Rattle.std.specs.Prelude.{◌≡◌, ◌<◌, length, None, IsTrue, IsFalse};
-ghost use Rattle.journal_text.specs.Reading.{waiting};
-ghost use Rattle.journal_replay.specs.Pieces.{IfNone};
-ghost use Rattle.journal_replay.specs.Progress.{GoesOn, IsShort, StopsFor, Waits};
+ghost use Rattle.std.specs.Prelude.{MatchOption, IsFalse};
+ghost use Rattle.journal_replay.specs.Progress.{IsShort, StopsSo, TookLine};
 
 use asp_base::NoMemory;
 use journal_text::{Checker, JournalNext, JournalReader};
@@ -34,6 +32,8 @@ pub enum Stop {
 /// Takes one line that is held, and answers `None`; or why none was taken.
 fn take_line(alloc: Global, replaying: &mut Replaying) -> Option<Stop>
     requires short { IsShort replaying.old }
+    requires whole { IsFalse replaying.old.reader.is_broken }
+    ensures { MatchOption result (TookLine replaying.old replaying.new) (λ stop. StopsSo stop replaying.old replaying.new) }
 {
     match replaying.reader.next() {
         JournalNext::Head { place } => {
@@ -54,9 +54,7 @@ fn take_line(alloc: Global, replaying: &mut Replaying) -> Option<Stop>
 pub fn take_lines(alloc: Global, replaying: &mut Replaying) -> Stop
     requires short { IsShort replaying.old }
     requires whole { IsFalse replaying.old.reader.is_broken }
-    ensures goes { result ≡ Stop.More → GoesOn replaying.old replaying.new }
-    ensures waits { result ≡ Stop.More → Waits replaying.new.reader }
-    ensures stops { IfNone result (λ offset. StopsFor replaying.old offset) }
+    ensures { StopsSo result replaying.old replaying.new }
 {
     loop {
         if let Some(stop) = take_line(alloc, replaying) {

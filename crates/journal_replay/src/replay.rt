@@ -1,9 +1,10 @@
 //! The top call of a replay.
-ghost use Rattle.std.specs.Prelude.{◌≡◌, ◌⊎◌, ◌≤◌, ◌^◌, ℕ, List};
+ghost use Rattle.std.specs.Prelude.{◌≡◌, ◌⊎◌, ◌≤◌, ◌^◌, ℕ, List, Option, IsTrue};
 ghost use Rattle.asp_base.specs.Causes.{Rose};
 ghost use Rattle.session_machine.specs.declared.entry.Entry.{Entry};
 ghost use Rattle.journal_replay.specs.declared.endings.End.{End};
-ghost use Rattle.journal_replay.specs.Replay.{IsReplay, IsStatusOf, TellsJournal, TellsNoJournal, status_number};
+ghost use Rattle.journal_replay.specs.Progress.{HasReplayed};
+ghost use Rattle.journal_replay.specs.Replay.{EndsAs, IsAll, IsReplay, IsStatusOf, TellsJournal, TellsNoJournal, status_number};
 
 use crate::endings::{End, status_number};
 use crate::lines::{Replaying, Stop, take_lines};
@@ -14,7 +15,12 @@ use journal_text::{Checker, JournalReader};
 use std::alloc::Global;
 
 /// Writes what was found of an input that has ended.
-fn tell_found<T: Sink>(alloc: Global, replaying: &Replaying, sink: &mut T) -> End {
+fn tell_found<T: Sink>(alloc: Global, replaying: &Replaying, sink: &mut T) -> End
+    requires may_feed { IsTrue replaying.now.reader.may_feed }
+    ensures ends { (source' : Option (List ℕ × List ℕ)) (bytes : List ℕ) (most : ℕ) → IsAll source' bytes most → HasReplayed bytes replaying.now
+        → EndsAs result source' (T.taken sink.old) (T.taken sink.new) bytes most }
+    ensures fault { result ≡ End.WriteFault → Rose (T.faults sink.old) (T.faults sink.new) }
+{
     match replaying.reader.finish() {
         None => tell_judgement(alloc, replaying.checker.verdict(), sink),
         Some(offset) => tell_stop(alloc, offset, sink),
@@ -22,24 +28,25 @@ fn tell_found<T: Sink>(alloc: Global, replaying: &Replaying, sink: &mut T) -> En
 }
 
 /// Reads and judges the journal on the source until it ends, or at most `most` bytes of it.
-fn replay<S: Source, T: Sink>(
-    alloc: Global,
-    most: u64,
-    replaying: &mut Replaying,
-    source: &mut S,
-    sink: &mut T,
-) -> End
+fn replay<S: Source, T: Sink>(alloc: Global, most: u64, source: &mut S, sink: &mut T) -> End
     requires most { most ≤ 2 ^ 40 }
+    ensures replay { IsReplay most (S.told source.old) (S.told source.new) (T.taken sink.old) (T.taken sink.new) result }
+    ensures read { result ≡ End.ReadFault → Rose (S.faults source.old) (S.faults source.new) }
+    ensures write { result ≡ End.WriteFault → Rose (T.faults sink.old) (T.faults sink.new) }
 {
+    let mut replaying = Replaying {
+        reader: JournalReader::new(alloc),
+        checker: Checker::new(alloc, 0),
+    };
     let mut left = most;
     while left > 0 {
         match take_piece(source, &mut replaying.reader, left) {
             Piece::Fed(count) => left -= count,
-            Piece::End => return tell_found(alloc, replaying, sink),
+            Piece::End => return tell_found(alloc, &replaying, sink),
             Piece::ReadFault => return End::ReadFault,
             Piece::NoMemory => return End::NoMemory,
         }
-        match take_lines(alloc, replaying) {
+        match take_lines(alloc, &mut replaying) {
             Stop::More => {}
             Stop::NotAJournal { offset } => return tell_stop(alloc, offset, sink),
             Stop::NoMemory => return End::NoMemory,
@@ -79,9 +86,5 @@ pub fn run_replay<S: Source, T: Sink>(
     ensures refused { TellsNoJournal (S.told source.old) most → (Rose (S.faults source.old) (S.faults source.new) → ⊥)
         → (Rose (T.faults sink.old) (T.faults sink.new) → ⊥) → (result ≡ 3) ⊎ (result ≡ 6) }
 {
-    let mut replaying = Replaying {
-        reader: JournalReader::new(alloc),
-        checker: Checker::new(alloc, 0),
-    };
-    status_number(replay(alloc, most, &mut replaying, source, sink))
+    status_number(replay(alloc, most, source, sink))
 }

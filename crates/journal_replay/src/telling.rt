@@ -1,8 +1,8 @@
 //! The line of what was found, on a sink.
-ghost use Rattle.std.specs.Prelude.{◌≡◌, ◌++◌, ◌≤◌, OnOk};
+ghost use Rattle.std.specs.Prelude.{◌≡◌, ◌++◌, OnOk};
 ghost use Rattle.asp_base.specs.Causes.{Rose};
 ghost use Rattle.journal_text.specs.Verdict.{judgement_line};
-ghost use Rattle.journal_replay.specs.Progress.{Tells, end_of};
+ghost use Rattle.journal_replay.specs.Progress.{HasLine, Tells, end_of};
 ghost use Rattle.journal_replay.specs.Replay.{stop_line};
 
 use crate::End;
@@ -12,6 +12,7 @@ use journal_text::{Judgement, write_judgement};
 use std::alloc::Global;
 
 /// Appends the line that tells at which offset a text is no journal.
+#[tactic(auto, unfolding(crate::specs::Replay::stop_line))]
 fn write_stop(out: &mut Vec<u8>, offset: u64) -> Result<(), NoMemory>
     ensures { OnOk result (out.new.items ≡ out.old.items ++ stop_line offset) }
 {
@@ -34,6 +35,7 @@ fn end_of(judgement: &Judgement) -> End
 
 /// Writes the line, and answers the ending that is due.
 fn tell<T: Sink>(line: &[u8], due: End, sink: &mut T) -> End
+    requires { HasLine due }
     ensures tells { Tells due line.now result (T.taken sink.old) (T.taken sink.new) }
     ensures fault { result ≡ End.WriteFault → Rose (T.faults sink.old) (T.faults sink.new) }
 {

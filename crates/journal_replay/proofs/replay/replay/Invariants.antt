@@ -1,0 +1,13 @@
+use Rattle.std.proofs.Common.{◌≤◌}
+use Rattle.journal_replay.specs.Progress.{Running, Waits}
+use Rattle.journal_replay.proofs.replay.replay.Given as goal
+
+abbrev pub invariant-loop-left : goal.invariant-loop-left
+invariant-loop-left g l = record {
+  running : Running l.most (g.S.Source.told l.fn.source) (g.S.Source.told l.source) l.replaying l.left;
+  waits : Waits l.replaying.reader;
+  reads : g.S.Source.faults l.fn.source ≤ g.S.Source.faults l.source;
+}
+
+abbrev pub decreases-loop-left : goal.decreases-loop-left
+decreases-loop-left g l = l.left
