@@ -84,6 +84,12 @@ pub judgement_has_line : (judgement : Judgement) (end : End) → end ≡ end_of 
 judgement_has_line (Legal entries) end is = subst HasLine (sym is) tt
 judgement_has_line (Illegal place why) end is = subst HasLine (sym is) tt
 
+-- only a read fails so
+pub tells_no_read : (due end : End) (line : List ℕ) (sink sink' : Option (List ℕ)) → HasLine due → Tells due line end sink sink' → end ≡ ends.ReadFault → ⊥
+tells_no_read due end line sink sink' has told is =
+    let wrong : Tells due line ends.ReadFault sink sink' = subst (λ e. Tells due line e sink sink') is told in
+    subst HasLine (sym wrong.0) has
+
 -- ---- the loop
 
 pub Waits-new : (r : Reading) → r ≡ new_reader → Waits r
@@ -147,45 +153,46 @@ replay-then most source source' source'' sink sink' r left end run gives ends = 
 
 module _ (most : ℕ) (source source' : Option (List ℕ × List ℕ)) (r : Replaying) (left : ℕ) (run : Running most source source' r left) where
   -- the most bytes were taken
-  pub ended-long : (sink : Option (List ℕ)) → Waits r.reader → left ≡ 0 → IsReplay most source source' sink sink ends.Long
-  ended-long sink waits none = replay-now most source source' sink sink r left ends.Long run (lines_of run.bytes r run.replayed waits, omega (arith, run.left_is, none), refl)
+  pub ended-long : (sink sink' : Option (List ℕ)) → sink' ≡ sink → Waits r.reader → left ≡ 0 → IsReplay most source source' sink sink' ends.Long
+  ended-long sink sink' kept waits none =
+      replay-now most source source' sink sink' r left ends.Long run (lines_of run.bytes r run.replayed waits, omega (arith, run.left_is, none), kept)
 
   -- the source failed, and gave nothing
-  pub ended-read : (source'' : Option (List ℕ × List ℕ)) (sink : Option (List ℕ)) → Waits r.reader → 0 < left → Gives source' source'' []
-      → IsReplay most source source'' sink sink ends.ReadFault
-  ended-read source'' sink waits some gives =
-      replay-then most source source' source'' sink sink r left ends.ReadFault run gives (lines_of run.bytes r run.replayed waits, omega (arith, run.left_is, some), refl)
+  pub ended-read : (source'' : Option (List ℕ × List ℕ)) (sink sink' : Option (List ℕ)) → sink' ≡ sink → Waits r.reader → 0 < left → Gives source' source'' []
+      → IsReplay most source source'' sink sink' ends.ReadFault
+  ended-read source'' sink sink' kept waits some gives =
+      replay-then most source source' source'' sink sink' r left ends.ReadFault run gives (lines_of run.bytes r run.replayed waits, omega (arith, run.left_is, some), kept)
 
   -- there was no memory for a piece
-  pub ended-unfed : (source'' : Option (List ℕ × List ℕ)) (sink : Option (List ℕ)) (piece : List ℕ) → Gives source' source'' piece → length piece ≤ left
-      → IsReplay most source source'' sink sink ends.NoMemory
-  ended-unfed source'' sink piece gives fits = record {
+  pub ended-unfed : (source'' : Option (List ℕ × List ℕ)) (sink sink' : Option (List ℕ)) → sink' ≡ sink → (piece : List ℕ) → Gives source' source'' piece → length piece ≤ left
+      → IsReplay most source source'' sink sink' ends.NoMemory
+  ended-unfed source'' sink sink' kept piece gives fits = record {
     bytes = run.bytes ++ piece;
     given = Gives-trans source source' source'' run.bytes piece run.given gives;
     within = omega (arith, run.left_is, fits, length-append run.bytes piece);
-    ends = refl;
+    ends = kept;
   }
 
   -- there was no memory for an entry
-  pub ended-no_memory : (sink : Option (List ℕ)) → IsReplay most source source' sink sink ends.NoMemory
-  ended-no_memory sink = replay-now most source source' sink sink r left ends.NoMemory run refl
+  pub ended-no_memory : (sink sink' : Option (List ℕ)) → sink' ≡ sink → IsReplay most source source' sink sink' ends.NoMemory
+  ended-no_memory sink sink' kept = replay-now most source source' sink sink' r left ends.NoMemory run kept
 
   -- the input ended, and what was found was told
-  pub ended-found : (source'' : Option (List ℕ × List ℕ)) (sink sink' : Option (List ℕ)) (reader : Reading) (end : End) → 0 < left → Gives source' source'' [] → IsAtEnd source''
+  pub ended-found : (source'' : Option (List ℕ × List ℕ)) (first sink sink' : Option (List ℕ)) → sink ≡ first → (reader : Reading) (end : End) → 0 < left → Gives source' source'' [] → IsAtEnd source''
       → reader ≡ r.reader
       → ((input : Option (List ℕ × List ℕ)) (bytes : List ℕ) (n : ℕ) → IsAll input bytes n → HasReplayed bytes (record { reader = reader; checker = r.checker }) → EndsAs end input sink sink' bytes n)
-      → IsReplay most source source'' sink sink' end
-  ended-found source'' sink sink' reader end some gives at_end same ends =
-      replay-then most source source' source'' sink sink' r left end run gives
+      → IsReplay most source source'' first sink' end
+  ended-found source'' first sink sink' kept reader end some gives at_end same ends =
+      subst (λ t. IsReplay most source source'' t sink' end) kept (replay-then most source source' source'' sink sink' r left end run gives
       (ends source'' run.bytes most (at_end, omega (arith, run.left_is, some))
-      (subst (λ (x : Reading). HasReplayed run.bytes (record { reader = x; checker = r.checker })) (sym same) run.replayed))
+      (subst (λ (x : Reading). HasReplayed run.bytes (record { reader = x; checker = r.checker })) (sym same) run.replayed)))
 
   -- a line was none, and that was told
-  pub ended-stopped : (sink sink' : Option (List ℕ)) (offset : ℕ) (end : End) → StopsFor r offset → Tells ends.NotAJournal (stop_line offset) end sink sink'
-      → IsReplay most source source' sink sink' end
-  ended-stopped sink sink' offset end stops told =
-      replay-now most source source' sink sink' r left end run
-      (ends_told ends.NotAJournal end source' sink sink' run.bytes most (stop_line offset) (offset, inr (stops run.bytes run.replayed), refl) told)
+  pub ended-stopped : (first sink sink' : Option (List ℕ)) → sink ≡ first → (offset : ℕ) (end : End) → StopsFor r offset → Tells ends.NotAJournal (stop_line offset) end sink sink'
+      → IsReplay most source source' first sink' end
+  ended-stopped first sink sink' kept offset end stops told =
+      subst (λ t. IsReplay most source source' t sink' end) kept (replay-now most source source' sink sink' r left end run
+      (ends_told ends.NotAJournal end source' sink sink' run.bytes most (stop_line offset) (offset, inr (stops run.bytes run.replayed), refl) told))
 
 -- ---- completeness
 

@@ -20,6 +20,7 @@ fn tell_found<T: Sink>(alloc: Global, replaying: &Replaying, sink: &mut T) -> En
     ensures ends { (source' : Option (List ℕ × List ℕ)) (bytes : List ℕ) (most : ℕ) → IsAll source' bytes most → HasReplayed bytes replaying.now
         → EndsAs result source' (T.taken sink.old) (T.taken sink.new) bytes most }
     ensures fault { result ≡ End.WriteFault → Rose (T.faults sink.old) (T.faults sink.new) }
+    ensures no_read { result ≡ End.ReadFault → ⊥ }
 {
     match replaying.reader.finish() {
         None => tell_judgement(alloc, replaying.checker.verdict(), sink),
