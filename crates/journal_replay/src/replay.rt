@@ -65,12 +65,7 @@ fn replay<S: Source, T: Sink>(alloc: Global, most: u64, source: &mut S, sink: &m
 /// none of its place; 4 and 5 where the source or the sink failed; 6 where memory was wanting; 7 where
 /// the most bytes were taken and the lines among them are those of a journal. The first of these in
 /// time decides.
-pub fn run_replay<S: Source, T: Sink>(
-    alloc: Global,
-    most: u64,
-    source: &mut S,
-    sink: &mut T,
-) -> u8
+pub fn run_replay<S: Source, T: Sink>(alloc: Global, most: u64, source: &mut S, sink: &mut T) -> u8
     requires most { most ≤ 2 ^ 40 }
 
     // There is one ending, whose number is the status, and one replay that ended so.
