@@ -1,0 +1,112 @@
+-- A replay: a journal that is read and judged, from the bytes that were taken to the line that was written.
+use Rattle.std.specs.Prelude.{◌≡◌, ◌⊎◌, ℕ, ◌<◌, ◌≤◌, List, ◌++◌, length, codes, decimal, Option, Some, None, ⊤}
+use Rattle.asp_base.specs.Outside.{Gives, IsAtEnd, Takes, TakesFront}
+use Rattle.asp_messages.specs.PlainSpelling.{◌then◌}
+use Rattle.plain_words.specs.Words.{HasNo}
+use Rattle.session_machine.specs.declared.entry.Entry.{Entry}
+use Rattle.session_machine.specs.History.{nothing}
+use Rattle.lock_laws.specs.Laws.{LocksHold}
+use Rattle.journal_text.specs.declared.judgement.Judgement.{Judgement}
+use Rattle.journal_text.specs.declared.judgement.Judgement.TheVariants.{Legal, Illegal}
+use Rattle.journal_text.specs.declared.judgement.Why.{Why}
+use Rattle.journal_text.specs.JournalText.{IsJournal, most_line}
+use Rattle.journal_text.specs.Judging.{Judges}
+use Rattle.journal_text.specs.Reading.{Taken, TakenFits, StopsAt, taken_text}
+use Rattle.journal_text.specs.Verdict.{judgement_line}
+use Rattle.journal_replay.specs.declared.endings.End.{End}
+use Rattle.journal_replay.specs.declared.endings.End.TheVariants as ends
+
+-- ---- what the bytes are
+
+-- the bytes are all that the source had, and fewer than the most that may be taken
+abbrev pub IsAll : Option (List ℕ × List ℕ) → List ℕ → ℕ → Type 0
+IsAll source' bytes most = IsAtEnd source' × (length bytes < most)
+
+-- what locks give, where the list is judged legal
+abbrev pub GivesLocks : Judgement → List Entry → Type 0
+GivesLocks (Legal entries) list = LocksHold nothing 0 list
+GivesLocks (Illegal place why) list = ⊤
+
+-- The bytes are the journal of a list of entries, and this is the judgement of the list.
+pub record IsJudged (bytes : List ℕ) (judgement : Judgement) : Type 0 where
+  pub place : ℕ
+  pub list : List Entry
+  pub journal : IsJournal bytes place list
+  pub judges : Judges place list judgement
+  pub locks : GivesLocks judgement list
+
+-- the input stops being a journal at this offset: the bytes are all of it and stop there, or they stop there whatever follows them
+abbrev pub InputStopsAt : Option (List ℕ × List ℕ) → List ℕ → ℕ → ℕ → Type 0
+InputStopsAt source' bytes most offset =
+    (IsAll source' bytes most × StopsAt bytes offset) ⊎ ((more : List ℕ) → StopsAt (bytes ++ more) offset)
+
+-- The bytes are whole lines of a journal, and the front of one more line.
+pub record AreLines (bytes : List ℕ) : Type 0 where
+  pub taken : Taken
+  pub rest : List ℕ
+  pub fits : TakenFits taken
+  pub bytes_are : bytes ≡ taken_text taken ++ rest
+  pub unfinished : HasNo 10 rest
+  pub short : length rest ≤ most_line
+
+-- ---- endings
+
+-- the line that tells at which offset a text is no journal, with its line feed
+unfoldable pub stop_line : ℕ → List ℕ
+stop_line offset = (codes "not a journal at" then decimal offset) ++ codes "\n"
+
+-- the line that is due at an ending that tells what was found
+abbrev pub IsDue : End → Option (List ℕ × List ℕ) → List ℕ → ℕ → List ℕ → Type 0
+IsDue ends.Legal source' bytes most line =
+    IsAll source' bytes most × ((entries : ℕ) × IsJudged bytes (Legal entries) × (line ≡ judgement_line (Legal entries)))
+IsDue ends.Illegal source' bytes most line =
+    IsAll source' bytes most × ((place : ℕ) × (why : Why) × IsJudged bytes (Illegal place why) × (line ≡ judgement_line (Illegal place why)))
+IsDue ends.NotAJournal source' bytes most line = (offset : ℕ) × InputStopsAt source' bytes most offset × (line ≡ stop_line offset)
+IsDue end source' bytes most line = ⊥
+
+-- What holds at each ending: of the source and the sink after it, and of the bytes taken, which are at most this many.
+abbrev pub EndsAs : End → Option (List ℕ × List ℕ) → Option (List ℕ) → Option (List ℕ) → List ℕ → ℕ → Type 0
+EndsAs ends.ReadFault source' sink sink' bytes most = AreLines bytes × (length bytes < most) × (sink' ≡ sink)
+EndsAs ends.WriteFault source' sink sink' bytes most =
+    (end : End) × (line : List ℕ) × IsDue end source' bytes most line × TakesFront sink sink' line
+EndsAs ends.NoMemory source' sink sink' bytes most = sink' ≡ sink
+EndsAs ends.Long source' sink sink' bytes most = AreLines bytes × (length bytes ≡ most) × (sink' ≡ sink)
+EndsAs end source' sink sink' bytes most = (line : List ℕ) × IsDue end source' bytes most line × Takes sink sink' line
+
+-- the exit status of an ending
+abbrev pub status_number : End → ℕ
+status_number ends.Legal = 0
+status_number ends.NotAJournal = 3
+status_number ends.ReadFault = 4
+status_number ends.WriteFault = 5
+status_number ends.NoMemory = 6
+status_number ends.Long = 7
+status_number ends.Illegal = 8
+
+-- A replay: these bytes were taken, and it ended so.
+pub record IsReplay (most : ℕ) (source source' : Option (List ℕ × List ℕ)) (sink sink' : Option (List ℕ)) (end : End) : Type 0 where
+  pub bytes : List ℕ
+  pub given : Gives source source' bytes
+  pub within : length bytes ≤ most
+  pub ends : EndsAs end source' sink sink' bytes most
+
+-- ---- completeness
+
+-- the source tells its input, which is the journal of this list and has fewer than so many bytes
+abbrev pub TellsJournal : Option (List ℕ × List ℕ) → ℕ → ℕ → List Entry → Type 0
+TellsJournal None most place list = ⊥
+TellsJournal (Some told) most place list = (length told.1 < most) × IsJournal told.1 place list
+
+-- the source tells its input, which is no journal and has fewer than so many bytes
+abbrev pub TellsNoJournal : Option (List ℕ × List ℕ) → ℕ → Type 0
+TellsNoJournal None most = ⊥
+TellsNoJournal (Some told) most = (length told.1 < most) × ((place : ℕ) (list : List Entry) → ¬ IsJournal told.1 place list)
+
+-- the exit status of a judgement
+abbrev pub judgement_status : Judgement → ℕ
+judgement_status (Legal entries) = 0
+judgement_status (Illegal place why) = 8
+
+-- the status is that of the list's judgement, or memory was wanting
+abbrev pub IsStatusOf : ℕ → ℕ → List Entry → Type 0
+IsStatusOf status place list = ((judgement : Judgement) × Judges place list judgement × (status ≡ judgement_status judgement)) ⊎ (status ≡ 6)
