@@ -49,6 +49,11 @@ unfoldable pub id_of : List (List ℕ) → Option Command
 id_of (name ∷ digits ∷ []) = if bytes_eq name (codes "id") then id_with (hex_bytes 15 digits) else None
 id_of words = None
 
+-- `replay`
+unfoldable pub single_of : List (List ℕ) → Option Command
+single_of (name ∷ []) = if bytes_eq name (codes "replay") then Some commands.Replay else None
+single_of words = None
+
 -- the first of two that there is
 infixr 3 ◌or◌
 abbrev pub ◌or◌ : Option Command → Option Command → Option Command
@@ -57,4 +62,4 @@ Some command or second = Some command
 
 -- what the words of a command line say
 unfoldable pub command_of : List (List ℕ) → Option Command
-command_of words = pipe_of words or load_of words or id_of words
+command_of words = pipe_of words or load_of words or id_of words or single_of words

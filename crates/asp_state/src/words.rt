@@ -3,7 +3,7 @@ ghost use Rattle.std.specs.Prelude.{◌≡◌, map, string_bytes, IfSome};
 ghost use Rattle.load_generator.specs.Running.{LoadFits};
 ghost use Rattle.asp_state.specs.Commands.{IfLoad, IfPipe};
 ghost use Rattle.asp_state.specs.Run.{PipeFits};
-ghost use Rattle.asp_state.specs.Words.{command_of, id_of, load_of, pipe_of, run_of};
+ghost use Rattle.asp_state.specs.Words.{command_of, id_of, load_of, pipe_of, run_of, single_of};
 
 use crate::pipe::Pipe;
 use asp_base::{LAST_MOMENT, read_number};
@@ -12,7 +12,7 @@ use load_generator::Load;
 use session_id::read_hex;
 
 /// The most bytes that a command takes from its source.
-const MOST_INPUT: u64 = 1 << 40;
+pub const MOST_INPUT: u64 = 1 << 40;
 
 /// The most requests of a load.
 const MOST_REQUESTS: u64 = 1_000_000;
@@ -29,6 +29,8 @@ pub enum Command {
     Load(Load),
     /// Write the identifier of these bytes.
     Id([u8; 15]),
+    /// Judge the journal on the source.
+    Replay,
 }
 
 /// A run with these numbers, where each is in its range.
@@ -106,6 +108,22 @@ fn id_of(words: &[String]) -> Option<Command>
     Some(Command::Id(bytes))
 }
 
+/// The commands of a single word.
+#[tactic(auto, unfolding(crate::specs::Words::single_of))]
+fn single_of(words: &[String]) -> Option<Command>
+    ensures pipe { IfSome result (λ command. IfPipe command (λ pipe. ⊥)) }
+    ensures load { IfSome result (λ command. IfLoad command (λ load. ⊥)) }
+    ensures value { result ≡ single_of (map string_bytes words.now) }
+{
+    let [name] = words else {
+        return None;
+    };
+    if name.as_str() == "replay" {
+        return Some(Command::Replay);
+    }
+    None
+}
+
 /// What the words say, `None` where they are none of the table of commands. It takes no memory.
 #[tactic(auto, unfolding(crate::specs::Words::command_of))]
 pub fn command_of(words: &[String]) -> Option<Command>
@@ -119,5 +137,8 @@ pub fn command_of(words: &[String]) -> Option<Command>
     if let Some(command) = load_of(words) {
         return Some(command);
     }
-    id_of(words)
+    if let Some(command) = id_of(words) {
+        return Some(command);
+    }
+    single_of(words)
 }
