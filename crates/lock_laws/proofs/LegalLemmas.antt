@@ -32,11 +32,11 @@ Lead-behind old [] ns p = p
 Lead-behind old (m ∷ ms) ns p = Lead-behind (after_entry old m) ms ns p.1
 
 -- whether the count rose at the place
-abbrev rose_at : ℕ → List Entry → Entry → Bool
+abbrev pub rose_at : ℕ → List Entry → Entry → Bool
 rose_at count before e = has_risen (count_after count before) e.faults
 
 -- each deed of a legal history may be done where it stands
-deed-stands : (opening : List ℕ → Option Item) (count : ℕ) (list : List Entry) (key : List ℕ) (before behind : List Entry) (e : Entry) → IsLegal opening count list
+pub deed-stands : (opening : List ℕ → Option Item) (count : ℕ) (list : List Entry) (key : List ℕ) (before behind : List Entry) (e : Entry) → IsLegal opening count list
     → list ≡ before ++ e ∷ behind → is_deed_of key e.deed ≡ true → DeedStands (item_after opening count before key) (rose_at count before e) e.deed e
 deed-stands opening count list key before behind e legal place same =
     let m : Marked = (rose_at count before e, e) in

@@ -3,3 +3,4 @@ pub mod WordsLemmas
 pub mod LegalLemmas
 pub mod LawLemmas
 pub mod Examples
+pub mod WayLemmas

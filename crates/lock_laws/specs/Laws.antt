@@ -1,14 +1,15 @@
 -- What locks give, in every legal history.
 use Rattle.std.specs.Prelude.{◌≡◌, ◌≢◌, ℕ, List, [], ◌∷◌, ◌++◌, Option, Some, None, Bool, true, false, IsTrue, ⊤}
 use Rattle.asp_messages.specs.declared.request.Ask.{Ask}
-use Rattle.asp_messages.specs.declared.request.Ask.TheVariants.{Release, Write, Remove}
+use Rattle.asp_messages.specs.declared.request.Ask.TheVariants.{Read, Acquire, Release, Write, Remove}
 use Rattle.asp_messages.specs.declared.reply.Reply.{Reply}
-use Rattle.asp_messages.specs.declared.reply.Reply.TheVariants.{Done, KeeperFault, NoMemory}
+use Rattle.asp_messages.specs.declared.reply.Reply.TheVariants.{Done, Locked, KeeperFault, NoMemory}
 use Rattle.session_machine.specs.declared.entry.Entry.{Entry}
 use Rattle.session_machine.specs.declared.entry.Deed.{Deed}
 use Rattle.session_machine.specs.declared.entry.Deed.TheVariants.{Asked}
 use Rattle.session_machine.specs.declared.item.Item.{Item}
-use Rattle.session_machine.specs.Liveness.{seen}
+use Rattle.session_machine.specs.declared.item.Hold.{Hold}
+use Rattle.session_machine.specs.Liveness.{seen, age}
 use Rattle.session_machine.specs.History.{is_deed_of, item_after}
 use Rattle.lock_laws.specs.InForce.{Grant, granted, IsGranted, IsInForce}
 
@@ -64,6 +65,17 @@ abbrev pub content_of : Option Item → Option (List ℕ × ℕ)
 content_of None = None
 content_of (Some item) = Some (item.body, item.minutes)
 
+-- the lock on an item
+abbrev pub hold_of : Option Item → Option Hold
+hold_of None = None
+hold_of (Some item) = item.holder
+
+-- the request asks for the content
+abbrev pub is_content_ask : Ask → Bool
+is_content_ask Read = true
+is_content_ask Acquire = true
+is_content_ask ask = false
+
 -- ---- the laws
 
 -- A request that names a cookie acts only where that lock is in force: a stale cookie changes nothing.
@@ -105,6 +117,20 @@ NobodyElse opening count list =
     (key : List ℕ) (before : List Entry) (e : Entry) (grant : Grant) (until since : List Entry) → StandsAt list key before e
     → IsInForce opening count key grant.cookie before e.moment → IsGranted opening key grant before until since
     → IsAlone opening count key grant until since e
+
+-- The lock of the cookie is in force behind the entries before, and has been held for so many seconds at the moment.
+pub record IsInForceFor (opening : List ℕ → Option Item) (count : ℕ) (key : List ℕ) (cookie seconds : ℕ) (before : List Entry) (moment : ℕ) : Type 0 where
+  pub in_force : IsInForce opening count key cookie before moment
+  pub hold : Hold
+  pub held : hold_of (item_after opening count before key) ≡ Some hold
+  pub by_cookie : hold.cookie ≡ cookie
+  pub held_for : age hold moment ≡ seconds
+
+-- Where an acquire or a read is answered that a lock is in the way, that lock is in force, and as old as the answer says.
+abbrev pub LockInTheWayIsInForce : (List ℕ → Option Item) → ℕ → List Entry → Type 0
+LockInTheWayIsInForce opening count list =
+    (key : List ℕ) (before : List Entry) (e : Entry) (cookie seconds : ℕ) → StandsAt list key before e
+    → IsTrue (is_asked is_content_ask e.deed) → e.reply ≡ Locked cookie seconds → IsInForceFor opening count key cookie seconds before e.moment
 
 -- What locks give: all four laws.
 pub record LocksHold (opening : List ℕ → Option Item) (count : ℕ) (list : List Entry) : Type 0 where

@@ -3,7 +3,7 @@ ghost use Rattle.std.specs.Prelude.{ℕ, List, Option};
 ghost use Rattle.session_machine.specs.declared.entry.Entry.{Entry};
 ghost use Rattle.session_machine.specs.declared.item.Item.{Item};
 ghost use Rattle.session_machine.specs.History.{IsLegal};
-ghost use Rattle.lock_laws.specs.Laws.{ActsOnlyInForce, InForceIsDone, NoUpdateIsLost, NobodyElse, LocksHold};
+ghost use Rattle.lock_laws.specs.Laws.{ActsOnlyInForce, InForceIsDone, NoUpdateIsLost, NobodyElse, LockInTheWayIsInForce, LocksHold};
 
 /// A request that names a cookie acts only where that lock is in force: a stale cookie changes
 /// nothing.
@@ -25,6 +25,12 @@ pub fn no_update_is_lost()
 /// While a lock is in force nobody acquires, and nobody writes or removes without its cookie.
 pub fn nobody_else()
     ensures { (opening : List ℕ → Option Item) (count : ℕ) (list : List Entry) → IsLegal opening count list → NobodyElse opening count list }
+{}
+
+/// Where an acquire or a read is answered that a lock is in the way, that lock is in force, and as
+/// old as the answer says.
+pub fn lock_in_the_way_is_in_force()
+    ensures { (opening : List ℕ → Option Item) (count : ℕ) (list : List Entry) → IsLegal opening count list → LockInTheWayIsInForce opening count list }
 {}
 
 /// All that locks give.

@@ -3,4 +3,7 @@
 
 mod laws;
 
-pub use laws::{acts_only_in_force, in_force_is_done, locks_hold, no_update_is_lost, nobody_else};
+pub use laws::{
+    acts_only_in_force, in_force_is_done, lock_in_the_way_is_in_force, locks_hold,
+    no_update_is_lost, nobody_else,
+};

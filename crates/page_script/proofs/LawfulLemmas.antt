@@ -1,0 +1,151 @@
+-- What holds in each world that a script stands for.
+use Rattle.std.proofs.Common.{◌≡◌, ◌≢◌, ℕ, ◌+◌, Bool, true, false, cond, List, [], ◌∷◌, ◌++◌, length, Some, None, Option, refl, sym, ap, ◌∙◌, arith, subst}
+use Rattle.std.specs.Prelude.{◌==◌, map, filter}
+use Rattle.std.proofs.lemmas.Bool.Decides.{nat_tests}
+use Rattle.std.proofs.lemmas.List.{map-append}
+use Rattle.std.proofs.lemmas.List.Elements.{filter-append}
+use Rattle.asp_messages.specs.declared.reply.Reply.TheVariants.{Locked}
+use Rattle.std.proofs.lemmas.Slice.Eq.{bytes_eq-Decides}
+use Rattle.asp_messages.specs.declared.request.Request.{Request}
+use Rattle.session_machine.specs.declared.entry.Entry.{Entry}
+use Rattle.session_machine.specs.declared.item.Item.{Item}
+use Rattle.shard_core.specs.Standing.{TellsAfter}
+use Rattle.session_machine.specs.History.{nothing, IsLegal}
+use Rattle.lock_laws.specs.Laws.{IsInForceFor, is_content_ask}
+use Rattle.lock_laws.proofs.WayLemmas.{lock_in_the_way}
+use Rattle.visit_core.specs.declared.terms.Need.{Need}
+use Rattle.visit_core.specs.declared.terms.Need.TheVariants.{Exclusive, ReadOnly, Off}
+use Rattle.visit_core.specs.declared.act.Heard.TheVariants.{Reply}
+use Rattle.visit_core.specs.Rule.{Event, heard, ask_of, IsLawful, MeetsOldLock}
+use Rattle.visit_core.specs.Terms.{Terms}
+use Rattle.visit_core.proofs.ReleaseLemmas.{releases}
+use Rattle.page_script.specs.declared.script.Script.{Script}
+use Rattle.page_script.specs.World.{Page, Turn, World, history, entry_of, event_of, turns_of, is_heard, IsLawfulPage, IsLawfulWorld, MetOldLock, ForcesOldLocks}
+use Rattle.page_script.specs.Standing.{PagesStand, Stands, IfTold, keeper_of}
+use Rattle.page_script.proofs.PlaceLemmas.{held-at}
+
+-- ---- the place of a page's last answer
+
+-- The last turn of a page, whose answer is this event.
+record IsLast (number : ℕ) (turns : List Turn) (event : Event) : Type 0 where
+  before : List Turn
+  turn : Turn
+  behind : List Turn
+  place : turns ≡ before ++ turn ∷ behind
+  own : turn.page ≡ number
+  last : turns_of number behind ≡ []
+  answer : event_of turn ≡ event
+
+map-nil : (turns : List Turn) → map event_of turns ≡ [] → turns ≡ []
+map-nil [] is = refl
+map-nil (turn ∷ turns) is = absurd (cc is)
+
+own-true : (m number : ℕ) → (m == number) ≡ true → m ≡ number
+own-true m number e = grind (arith, nat_tests)
+
+-- a turn more in front
+in_front : (number : ℕ) (turn : Turn) (turns : List Turn) (event : Event) → IsLast number turns event → IsLast number (turn ∷ turns) event
+in_front number turn turns event found = record {
+  before = turn ∷ found.before;
+  turn = found.turn;
+  behind = found.behind;
+  place = ap (λ ts. turn ∷ ts) found.place;
+  own = found.own;
+  last = found.last;
+  answer = found.answer;
+}
+
+last_turn : (number : ℕ) (turns : List Turn) (events : List Event) (event : Event) → map event_of (turns_of number turns) ≡ events ++ event ∷ [] → IsLast number turns event
+last_turn number [] [] event is = absurd (cc is)
+last_turn number [] (other ∷ events) event is = absurd (cc is)
+last_turn number (turn ∷ turns) events event is = by_page (λ es e. last_turn number turns es event e) (turn.page == number) refl events is
+  where
+    by_page : ((es : List Event) → map event_of (turns_of number turns) ≡ es ++ event ∷ [] → IsLast number turns event) → (b : Bool) → (turn.page == number) ≡ b → (es : List Event)
+        → map event_of (cond b (turn ∷ turns_of number turns) (turns_of number turns)) ≡ es ++ event ∷ [] → IsLast number (turn ∷ turns) event
+    by_page next true own [] e = record {
+      before = [];
+      turn = turn;
+      behind = turns;
+      place = refl;
+      own = own-true turn.page number own;
+      last = (let rest : map event_of (turns_of number turns) ≡ [] = cc e in map-nil (turns_of number turns) rest);
+      answer = cc e;
+    }
+    by_page next true own (other ∷ es) e = (let rest : map event_of (turns_of number turns) ≡ es ++ event ∷ [] = cc e in in_front number turn turns event (next es rest))
+    by_page next false own es e = in_front number turn turns event (next es e)
+
+-- ---- a release by force
+
+content-ask : (need : Need) → need ≢ Off → is_content_ask (ask_of need) ≡ true
+content-ask Exclusive apart = refl
+content-ask ReadOnly apart = refl
+content-ask Off apart = absurd (apart refl)
+
+-- the last answer of a page that met an old lock, at its place
+module _ (turns : List Turn) (number : ℕ) (page : Page) (cookie : ℕ) (legal : IsLegal nothing 0 (history turns)) (page_lawful : IsLawfulPage turns number page)
+    (met : MeetsOldLock page.terms page.past cookie)
+  where
+    abbrev request : Request
+    request = record { key = page.terms.key; ask = ask_of page.terms.need }
+
+    abbrev event : Event
+    event = heard met.moment request (Reply (Locked cookie met.age))
+
+    heard-last : map event_of (turns_of number turns) ≡ filter is_heard met.earlier ++ event ∷ []
+    heard-last = sym page_lawful.own ∙ ap (filter is_heard) met.last ∙ filter-append is_heard met.earlier (event ∷ [])
+
+    place : IsLast number turns event
+    place = last_turn number turns (filter is_heard met.earlier) event heard-last
+
+    same_moment : place.turn.moment ≡ met.moment
+    same_moment = cc place.answer
+
+    same_request : place.turn.request ≡ request
+    same_request = cc place.answer
+
+    same_reply : place.turn.reply ≡ Locked cookie met.age
+    same_reply = cc place.answer
+
+    in_force : IsInForceFor nothing 0 page.terms.key cookie met.age (history place.before) place.turn.moment
+    in_force =
+        lock_in_the_way nothing 0 (history turns) legal page.terms.key (history place.before) (entry_of place.turn) cookie met.age
+        (record {
+          behind = history place.behind;
+          place = ap history place.place ∙ map-append entry_of place.before (place.turn ∷ place.behind);
+          on_key = (bytes_eq-Decides page.terms.key place.turn.request.key).1 (sym (ap (λ (r : Request). r.key) same_request));
+        })
+        (ap (λ (r : Request). is_content_ask r.ask) same_request ∙ content-ask page.terms.need met.content) same_reply
+
+    met-old : MetOldLock turns number page cookie
+    met-old = record {
+      met = met;
+      before = place.before;
+      turn = place.turn;
+      behind = place.behind;
+      place = place.place;
+      own = place.own;
+      last = place.last;
+      answer = place.answer;
+      in_force = subst (IsInForceFor nothing 0 page.terms.key cookie met.age (history place.before)) same_moment in_force;
+    }
+
+forces : (world : World) → IsLegal nothing 0 (history world.turns) → IsLawfulWorld world → ForcesOldLocks world
+forces world legal lawful before page behind t cookie place not_ended acts =
+    let page_lawful = lawful before page behind place in
+    met-old world.turns (length before) page cookie legal page_lawful (releases page.terms page.past t cookie page_lawful.lawful not_ended acts)
+
+if-legal : (list : List Entry) (told : Option (List ℕ → Option Item)) (P : Type 0) → TellsAfter nothing 0 list told → (IsLegal nothing 0 list → P) → IfTold told P
+if-legal list None P tells f = tt
+if-legal list (Some items) P tells f = f tells.0
+
+module _ {K : Type 0} (CanCount : ℕ → Type 0) (told : K → Option (List ℕ → Option Item)) (count : K → ℕ) (script : Script K) (world : World)
+    (stands : Stands CanCount told count script world)
+  where
+    pub lawful : IsLawfulWorld world
+    lawful before page behind place =
+        let at : 0 + length before ≡ length before = omega arith in
+        let there = held-at world.turns 0 (length before) script.pages.items before page behind (subst (PagesStand world.turns 0 script.pages.items) place stands.pages) at in
+        record { lawful = subst (λ (terms : Terms). IsLawful terms page.past) there.1.terms there.1.past.lawful; own = there.1.own }
+
+    pub forced : IfTold (told (keeper_of script)) (ForcesOldLocks world)
+    forced = if-legal (history world.turns) (told (keeper_of script)) (ForcesOldLocks world) stands.desk.keeper.told_is (λ legal. forces world legal lawful)

@@ -1,0 +1,10 @@
+pub mod NameLemmas
+pub mod CutLemmas
+pub mod LineLemmas
+pub mod PageLemmas
+pub mod ReadingLemmas
+pub mod DeskLemmas
+pub mod StepLemmas
+pub mod PlaceLemmas
+pub mod WorldLemmas
+pub mod LawfulLemmas

@@ -1,0 +1,7 @@
+pub mod Endings
+pub mod Lines
+pub mod Names
+pub mod Parts
+pub mod Places
+pub mod Standing
+pub mod World

@@ -1,0 +1,71 @@
+//! A line, read from its text.
+ghost use Rattle.std.specs.Prelude.{◌≡◌, IfOk, IfSome, IfNone};
+ghost use Rattle.plain_words.specs.Words.{Reads};
+ghost use Rattle.page_script.specs.declared.line.Line.{Line};
+ghost use Rattle.page_script.specs.Lines.{IsLine};
+ghost use Rattle.page_script.specs.Parts.{IsLimits, IsStep};
+
+use crate::line::MOST_LINE;
+use crate::page::read_page;
+use crate::parts::{behind, read_number_then};
+use crate::{Line, Name};
+use asp_base::{LAST_MOMENT, NoMemory};
+use plain_words::read_plain_number;
+use std::alloc::Global;
+use visit_core::{Limits, MOST_EXECUTION_SECS, MOST_POLL_MS, MOST_POLLS, limits_fit};
+
+fn read_limits(text: &[u8]) -> Option<Limits>
+    ensures { Reads (IsLimits text.now) result }
+{
+    let (execution_secs, rest) = read_number_then(text, MOST_EXECUTION_SECS)?;
+    let (poll_ms, rest) = read_number_then(rest, MOST_POLL_MS)?;
+    let polls = read_plain_number(rest, MOST_POLLS)?;
+    let limits = Limits {
+        execution_secs,
+        poll_ms,
+        polls,
+    };
+    if limits_fit(&limits) {
+        Some(limits)
+    } else {
+        None
+    }
+}
+
+fn read_step(text: &[u8]) -> Option<(u64, Name)>
+    ensures { Reads (IsStep text.now) result }
+{
+    let (moment, name) = read_number_then(text, LAST_MOMENT)?;
+    let name = Name::read(name)?;
+    Some((moment, name))
+}
+
+/// The line that the text spells, without its line feed: `None` exactly where it spells none. Only
+/// the key and the content of a `page` line are copied. The only error is want of memory.
+pub fn read_line(alloc: Global, text: &[u8]) -> Result<Option<Line>, NoMemory>
+    ensures line { IfOk result (λ found. IfSome found (IsLine text.now)) }
+    ensures none { IfOk result (λ found. IfNone found ((line : Line) → IsLine text.now line → ⊥)) }
+{
+    if text.len() > MOST_LINE {
+        return Ok(None);
+    }
+    if let Some(words) = behind(text, b"limits ") {
+        return Ok(match read_limits(words) {
+            Some(limits) => Some(Line::Limits(limits)),
+            None => None,
+        });
+    }
+    if let Some(words) = behind(text, b"page ") {
+        return Ok(match read_page(alloc, words)? {
+            Some(page) => Some(Line::Page(page)),
+            None => None,
+        });
+    }
+    if let Some(words) = behind(text, b"step ") {
+        return Ok(match read_step(words) {
+            Some((moment, name)) => Some(Line::Step { moment, name }),
+            None => None,
+        });
+    }
+    Ok(None)
+}

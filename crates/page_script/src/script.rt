@@ -1,0 +1,217 @@
+//! A script: its pages, and the desk that they share.
+ghost use Rattle.std.specs.Prelude.{◌≡◌, ◌<◌, ◌++◌, ◌∷◌, [], ◌↔◌, length, IsTrue, MatchOption, OnOk, OnErr};
+ghost use Rattle.visit_core.specs.Terms.{LimitsFit};
+ghost use Rattle.page_script.specs.Places.{IsUnused, IsPlaceOf};
+
+use crate::desk::Desk;
+use crate::script_page::ScriptPage;
+use crate::{Line, Name, PageLine, read_line};
+use asp_base::NoMemory;
+use keeper::Keeper;
+use std::alloc::Global;
+use visit_core::Limits;
+
+/// The most pages of a script.
+pub const MOST_PAGES: usize = 64;
+
+/// How a line ended.
+#[derive(Clone, Copy, Debug, PartialEq, Eq)]
+pub enum LineEnd {
+    /// It was done, and its output was appended.
+    Done,
+    /// It is no line of a script, or none that may follow: nothing changed.
+    NotALine,
+    /// Memory was wanting; the script is over.
+    NoMemory,
+}
+
+/// A page script, run line by line over one keeper. Contracts tie it to the worlds that it stands
+/// for.
+#[derive(Drop)]
+pub struct Script<K> {
+    alloc: Global,
+    desk: Desk<K>,
+    pages: Vec<ScriptPage>,
+    limits: Limits,
+    is_over: bool,
+    ghost limits_fit: { LimitsFit limits },
+}
+
+/// The place of the page of this name.
+fn place_of(pages: &[ScriptPage], name: &Name) -> Option<usize>
+    ensures { MatchOption result (IsUnused pages.now name.now) (IsPlaceOf pages.now name.now) }
+{
+    for (i, page) in pages.iter().enumerate() {
+        if page.name == *name {
+            return Some(i);
+        }
+    }
+    None
+}
+
+/// Whether a page of this name may be added.
+fn is_free(pages: &[ScriptPage], name: &Name) -> bool
+    ensures { IsTrue result ↔ ((length pages.now < MOST_PAGES) × IsUnused pages.now name.now) }
+{
+    pages.len() < MOST_PAGES && place_of(pages, name).is_none()
+}
+
+/// Adds a page behind the others.
+fn push_page(pages: &mut Vec<ScriptPage>, page: ScriptPage) -> Result<(), NoMemory>
+    ensures ok { OnOk result (pages.new.items ≡ pages.old.items ++ page ∷ []) }
+    ensures err { OnErr result (pages.new.items ≡ pages.old.items) }
+{
+    pages.push(page)?;
+    Ok(())
+}
+
+impl<K: Keeper> Script<K> {
+    ghost use Rattle.std.specs.Prelude.{◌≡◌, ◌⊎◌, ◌≤◌, ◌^◌, ℕ, List, [], ◌∷◌, ◌++◌, ⊤};
+    ghost use Rattle.keeper.specs.Items.{IsEmptyTold};
+    ghost use Rattle.session_machine.specs.History.{nothing};
+    ghost use Rattle.shard_core.specs.Standing.{StandsFor};
+    ghost use Rattle.page_script.specs.declared.line.Line.{Line};
+    ghost use Rattle.page_script.specs.Lines.{IsLine, LineFits, PageFits};
+    ghost use Rattle.page_script.specs.World.{World, empty_world, history, MayFollow, IsLawfulWorld, ForcesOldLocks};
+    ghost use Rattle.page_script.specs.Standing.{Stands, Takes, TakesText, IfTold, IsOver, keeper_of};
+
+    /// A script with no pages over a keeper with no items, whose cookies begin at 1. It takes no
+    /// memory.
+    pub fn new(alloc: Global, keeper: K) -> Script<K>
+        requires no_faults { K.count keeper ≡ 0 }
+        requires empty { IsEmptyTold (K.told keeper) }
+        ensures keeper { keeper_of result ≡ keeper }
+        ensures stands { Stands K.can_count K.told K.count result empty_world }
+        ensures begun { IsOver result → ⊥ }
+    {
+        Script {
+            alloc,
+            desk: Desk::new(alloc, keeper),
+            pages: Vec::new(alloc),
+            limits: Limits::default(),
+            is_over: false,
+        }
+    }
+
+    /// A new page.
+    fn add_page(&mut self, line: PageLine) -> LineEnd
+        requires { PageFits line }
+        ensures done { result ≡ LineEnd.Done → (world : World) → Stands K.can_count K.told K.count self.old world
+            → Takes K.can_count K.told K.count self.new world (Line.Page line) (λ printed. printed ≡ []) }
+        ensures not_a_line { result ≡ LineEnd.NotALine → (world : World) → Stands K.can_count K.told K.count self.old world → MayFollow world (Line.Page line) → ⊥ }
+        ensures unchanged { result ≡ LineEnd.NotALine → self.new ≡ self.old }
+        ensures no_memory { result ≡ LineEnd.NoMemory → (world : World) → Stands K.can_count K.told K.count self.old world → Stands K.can_count K.told K.count self.new world }
+        ensures is_over { result ≡ LineEnd.NoMemory → IsOver self.new }
+        ensures goes_on { result ≡ LineEnd.Done → IsOver self.new → IsOver self.old }
+        ensures keeper { keeper_of self.new ≡ keeper_of self.old }
+    {
+        if !is_free(&self.pages, &line.name) {
+            return LineEnd::NotALine;
+        }
+        let page = ScriptPage::new(self.limits, line);
+        match push_page(&mut self.pages, page) {
+            Ok(()) => LineEnd::Done,
+            Err(NoMemory) => {
+                self.is_over = true;
+                LineEnd::NoMemory
+            }
+        }
+    }
+
+    /// One step of the page of this name.
+    fn step(&mut self, t: u64, name: Name, out: &mut Vec<u8>) -> LineEnd
+        requires { t ≤ 2 ^ 62 }
+        ensures done { result ≡ LineEnd.Done → (world : World) → Stands K.can_count K.told K.count self.old world
+            → Takes K.can_count K.told K.count self.new world (Line.Step t name) (λ printed. out.new.items ≡ out.old.items ++ printed) }
+        ensures not_a_line { result ≡ LineEnd.NotALine → (world : World) → Stands K.can_count K.told K.count self.old world → MayFollow world (Line.Step t name) → ⊥ }
+        ensures unchanged { result ≡ LineEnd.NotALine → self.new ≡ self.old }
+        ensures no_memory { result ≡ LineEnd.NoMemory → (world : World) → Stands K.can_count K.told K.count self.old world
+            → Stands K.can_count K.told K.count self.new world ⊎ Takes K.can_count K.told K.count self.new world (Line.Step t name) (λ printed. ⊤) }
+        ensures is_over { result ≡ LineEnd.NoMemory → IsOver self.new }
+        ensures goes_on { result ≡ LineEnd.Done → IsOver self.new → IsOver self.old }
+        ensures same { (result ≡ LineEnd.Done → ⊥) → out.new.items ≡ out.old.items }
+        ensures floor { K.floor (keeper_of self.new) ≡ K.floor (keeper_of self.old) }
+    {
+        let Some(place) = place_of(&self.pages, &name) else {
+            return LineEnd::NotALine;
+        };
+        match self.pages[place].step(self.alloc, &mut self.desk, t, out) {
+            Ok(()) => LineEnd::Done,
+            Err(NoMemory) => {
+                self.is_over = true;
+                LineEnd::NoMemory
+            }
+        }
+    }
+
+    /// One line.
+    fn run(&mut self, line: Line, out: &mut Vec<u8>) -> LineEnd
+        requires { LineFits line }
+        ensures done { result ≡ LineEnd.Done → (world : World) → Stands K.can_count K.told K.count self.old world
+            → Takes K.can_count K.told K.count self.new world line (λ printed. out.new.items ≡ out.old.items ++ printed) }
+        ensures not_a_line { result ≡ LineEnd.NotALine → (world : World) → Stands K.can_count K.told K.count self.old world → MayFollow world line → ⊥ }
+        ensures unchanged { result ≡ LineEnd.NotALine → self.new ≡ self.old }
+        ensures no_memory { result ≡ LineEnd.NoMemory → (world : World) → Stands K.can_count K.told K.count self.old world
+            → Stands K.can_count K.told K.count self.new world ⊎ Takes K.can_count K.told K.count self.new world line (λ printed. ⊤) }
+        ensures is_over { result ≡ LineEnd.NoMemory → IsOver self.new }
+        ensures goes_on { result ≡ LineEnd.Done → IsOver self.new → IsOver self.old }
+        ensures same { (result ≡ LineEnd.Done → ⊥) → out.new.items ≡ out.old.items }
+        ensures floor { K.floor (keeper_of self.new) ≡ K.floor (keeper_of self.old) }
+    {
+        match line {
+            Line::Limits(limits) => {
+                self.limits = limits;
+                LineEnd::Done
+            }
+            Line::Page(page) => self.add_page(page),
+            Line::Step { moment, name } => self.step(moment, name, out),
+        }
+    }
+
+    /// Runs one line, without its line feed, and appends what is printed for it. After `NoMemory` the
+    /// script is over, and each later line answers `NoMemory`; the last step was made or not.
+    pub fn line(&mut self, text: &[u8], out: &mut Vec<u8>) -> LineEnd
+        // Each world that the script stands for takes the line, and what is printed for it was appended.
+        ensures done { result ≡ LineEnd.Done → (world : World) → Stands K.can_count K.told K.count self.old world
+            → TakesText K.can_count K.told K.count self.new world text.now (λ printed. out.new.items ≡ out.old.items ++ printed) }
+        ensures goes_on { result ≡ LineEnd.Done → IsOver self.new → ⊥ }
+
+        // In no world that the script stands for may such a line follow; nothing changed.
+        ensures not_a_line { result ≡ LineEnd.NotALine → (world : World) (line : Line) → Stands K.can_count K.told K.count self.old world → IsLine text.now line → MayFollow world line → ⊥ }
+        ensures unchanged { result ≡ LineEnd.NotALine → self.new ≡ self.old }
+
+        // For want of memory each world stayed, or took the line without a print.
+        ensures no_memory { result ≡ LineEnd.NoMemory → (world : World) → Stands K.can_count K.told K.count self.old world
+            → Stands K.can_count K.told K.count self.new world ⊎ TakesText K.can_count K.told K.count self.new world text.now (λ printed. ⊤) }
+        ensures is_over { result ≡ LineEnd.NoMemory → IsOver self.new }
+        ensures stays_over { IsOver self.old → (result ≡ LineEnd.NoMemory) × (self.new ≡ self.old) }
+        ensures same { (result ≡ LineEnd.Done → ⊥) → out.new.items ≡ out.old.items }
+
+        // Each page follows the rule of its visit over its own past, and releases by force only a lock that is in force and old.
+        ensures lawful { (world : World) → Stands K.can_count K.told K.count self.old world → IsLawfulWorld world }
+        ensures forced { (world : World) → Stands K.can_count K.told K.count self.old world → IfTold (K.told (keeper_of self.old)) (ForcesOldLocks world) }
+        ensures floor { K.floor (keeper_of self.new) ≡ K.floor (keeper_of self.old) }
+    {
+        if self.is_over {
+            return LineEnd::NoMemory;
+        }
+        match read_line(self.alloc, text) {
+            Ok(Some(line)) => self.run(line, out),
+            Ok(None) => LineEnd::NotALine,
+            Err(NoMemory) => {
+                self.is_over = true;
+                LineEnd::NoMemory
+            }
+        }
+    }
+
+    /// The keeper, with the items and the count of faults after the history of the script's requests.
+    pub fn into_keeper(self) -> K
+        ensures keeper { result ≡ keeper_of self }
+        ensures history { (world : World) → Stands K.can_count K.told K.count self world → StandsFor nothing 0 (history world.turns) (K.told result) (K.count result) }
+        ensures lawful { (world : World) → Stands K.can_count K.told K.count self world → IsLawfulWorld world }
+        ensures forced { (world : World) → Stands K.can_count K.told K.count self world → IfTold (K.told result) (ForcesOldLocks world) }
+    {
+        self.desk.shard.into_keeper()
+    }
+}

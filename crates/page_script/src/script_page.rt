@@ -1,0 +1,139 @@
+//! A page of a script, and its steps.
+ghost use Rattle.std.specs.Prelude.{IfSome};
+ghost use Rattle.visit_core.specs.Terms.{EndingFits};
+ghost use Rattle.page_script.specs.Endings.{ending_fits-prop};
+
+use crate::copying::copy_request;
+use crate::desk::Desk;
+use crate::text::{or_undo, push_ask, push_over, push_reply, push_run, push_start, push_wait};
+use crate::{Name, PageLine};
+use asp_base::NoMemory;
+use asp_messages::Request;
+use keeper::Keeper;
+use std::alloc::Global;
+use visit_core::{Act, Ending, Heard, Limits, Visit};
+
+/// A page that was named.
+#[derive(Drop)]
+pub struct ScriptPage {
+    pub name: Name,
+    pub visit: Visit,
+    /// How the page ends; `None` once its visit was told so.
+    pub ending: Option<Ending>,
+    ghost ending_fits: { IfSome ending EndingFits } by { ending_fits-prop ending },
+}
+
+impl ScriptPage {
+    ghost use Rattle.std.specs.Prelude.{◌≡◌, ◌≤◌, ◌^◌, ℕ, List, [], ◌∷◌, ◌++◌, Bool, Option, OnOk, OnErr};
+    ghost use Rattle.asp_messages.specs.Appending.{Extends};
+    ghost use Rattle.asp_messages.specs.Ranges.{RequestFits};
+    ghost use Rattle.visit_core.specs.Acts.{send, run};
+    ghost use Rattle.visit_core.specs.Rule.{act_of, ended, Event};
+    ghost use Rattle.visit_core.specs.Stages.{HasPast, Sends, Runs};
+    ghost use Rattle.visit_core.specs.Terms.{LimitsFit};
+    ghost use Rattle.page_script.specs.Lines.{PageFits};
+    ghost use Rattle.page_script.specs.World.{Page, Turn, new_page, turns_of, step_line, with_events};
+    ghost use Rattle.page_script.specs.Standing.{state_of, PageStands, EachSteps, EachMayStep};
+
+    /// A page whose visit has not begun.
+    pub fn new(limits: Limits, line: PageLine) -> ScriptPage
+        requires limits { LimitsFit limits }
+        requires line { PageFits line }
+        ensures { (number : ℕ) (turns : List Turn) → turns_of number turns ≡ [] → PageStands turns number result (new_page limits line) }
+    {
+        ScriptPage {
+            name: line.name,
+            visit: Visit::new(line.key, line.need, limits),
+            ending: Some(line.ending),
+        }
+    }
+
+    /// Sends the request that the visit sends at the moment `t`, hears the reply, and appends both.
+    fn send<K: Keeper>(
+        &mut self,
+        desk: &mut Desk<K>,
+        t: u64,
+        request: Request,
+        out: &mut Vec<u8>,
+    ) -> Result<(), NoMemory>
+        requires moment { t ≤ 2 ^ 62 }
+        requires request { RequestFits request }
+        requires sends { Sends self.old.visit t }
+        requires acts { (past : List Event) → HasPast self.old.visit past → act_of self.old.visit.terms past t ≡ send request }
+        ensures ok { OnOk result (EachSteps K.can_count t self.old self.new (state_of K.told K.count desk.old) (state_of K.told K.count desk.new)
+            (λ words. out.new.items ≡ out.old.items ++ (words ++ 10 ∷ []))) }
+        ensures err { OnErr result (EachMayStep K.can_count t self.old self.new (state_of K.told K.count desk.old) (state_of K.told K.count desk.new)) }
+        ensures extends { OnErr result (Extends out.old.items out.new.items) }
+        ensures floor { K.floor desk.new.shard ≡ K.floor desk.old.shard }
+    {
+        push_ask(out, &request.ask)?;
+        let reply = desk.ask(request, t);
+        let written = push_reply(out, &reply);
+        self.visit.heard(t, Heard::Reply(reply));
+        written
+    }
+
+    /// Tells the visit, which runs, how the page ends, once.
+    fn finish(&mut self)
+        requires runs { Runs self.old.visit }
+        ensures { (number : ℕ) (turns : List Turn) (page : Page) (content : Option (List ℕ)) (first : Bool) (t : ℕ) → PageStands turns number self.old page
+            → act_of page.terms page.past t ≡ run content first → PageStands turns number self.new (with_events page (ended page.ending ∷ [])) }
+    {
+        if let Some(ending) = self.ending.take() {
+            self.visit.finish(ending);
+        }
+    }
+
+    /// The step of `step`, whose line is appended; where that fails, maybe in part.
+    fn print_step<K: Keeper>(
+        &mut self,
+        alloc: Global,
+        desk: &mut Desk<K>,
+        t: u64,
+        out: &mut Vec<u8>,
+    ) -> Result<(), NoMemory>
+        requires { t ≤ 2 ^ 62 }
+        ensures ok { OnOk result (EachSteps K.can_count t self.old self.new (state_of K.told K.count desk.old) (state_of K.told K.count desk.new)
+            (λ words. out.new.items ≡ out.old.items ++ step_line t self.old.name words)) }
+        ensures err { OnErr result (EachMayStep K.can_count t self.old self.new (state_of K.told K.count desk.old) (state_of K.told K.count desk.new)) }
+        ensures extends { OnErr result (Extends out.old.items out.new.items) }
+        ensures floor { K.floor desk.new.shard ≡ K.floor desk.old.shard }
+    {
+        push_start(out, t, self.name.as_slice())?;
+        match self.visit.next(t) {
+            Act::Send(request) => {
+                let request = copy_request(alloc, request)?;
+                self.send(desk, t, request, out)
+            }
+            Act::WaitUntil(moment) => push_wait(out, moment),
+            Act::Run { content, first } => {
+                push_run(out, content, first)?;
+                self.finish();
+                Ok(())
+            }
+            Act::Over(outcome) => push_over(out, outcome),
+        }
+    }
+
+    /// One step at the moment `t`, in milliseconds: each page of the world that this one stands for
+    /// takes it, and its line is appended. After `NoMemory` the buffer holds what it held, and the
+    /// step was made or not.
+    pub fn step<K: Keeper>(
+        &mut self,
+        alloc: Global,
+        desk: &mut Desk<K>,
+        t: u64,
+        out: &mut Vec<u8>,
+    ) -> Result<(), NoMemory>
+        requires { t ≤ 2 ^ 62 }
+        ensures ok { OnOk result (EachSteps K.can_count t self.old self.new (state_of K.told K.count desk.old) (state_of K.told K.count desk.new)
+            (λ words. out.new.items ≡ out.old.items ++ step_line t self.old.name words)) }
+        ensures err { OnErr result (EachMayStep K.can_count t self.old self.new (state_of K.told K.count desk.old) (state_of K.told K.count desk.new)) }
+        ensures same { OnErr result (out.new.items ≡ out.old.items) }
+        ensures floor { K.floor desk.new.shard ≡ K.floor desk.old.shard }
+    {
+        let len = out.len();
+        let written = self.print_step(alloc, desk, t, out);
+        or_undo(written, out, len)
+    }
+}
