@@ -1,6 +1,6 @@
 //! The bytes that a reader holds: what was fed and is not taken, and how far of it a line feed was
 //! sought.
-ghost use Rattle.std.specs.Prelude.{◌≡◌, ◌<◌, ◌≤◌, ◌+◌, ◌-◌, ◌++◌, [], length, take, drop, OnOk, OnErr, MatchOption};
+ghost use Rattle.std.specs.Prelude.{◌≡◌, ◌<◌, ◌≤◌, ◌+◌, ◌-◌, ◌++◌, ◌==◌, [], length, take, drop, OnOk, OnErr, MatchOption};
 ghost use Rattle.plain_words.specs.Words.{HasNo, SplitsAt};
 
 use asp_base::NoMemory;
@@ -63,6 +63,20 @@ impl HeldLines {
         ensures { result.now ≡ self.now }
     {
         &self.bytes[self.start..]
+    }
+
+    /// How many bytes are held.
+    pub fn len(&self) -> usize
+        ensures { result ≡ length self.now }
+    {
+        self.as_slice().len()
+    }
+
+    /// Whether no bytes are held.
+    pub fn is_empty(&self) -> bool
+        ensures { result ≡ (length self.now == 0) }
+    {
+        self.as_slice().is_empty()
     }
 
     /// Drops all bytes and their memory.

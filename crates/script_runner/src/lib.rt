@@ -6,6 +6,8 @@ mod ending;
 mod reading;
 mod running;
 mod runs;
+#[cfg(test)]
+mod tests;
 
 pub use ending::End;
 pub use runs::run_drive;

@@ -30,12 +30,12 @@ pub fn run<S: Source, T: Sink, K: Keeper>(
 {
     let mut left = most;
     while left > 0 {
-        if drive.held.as_slice().len() > MOST_LINE {
+        if drive.held.len() > MOST_LINE {
             return End::Broken;
         }
         match take_piece(source, &mut drive.held, left) {
             Piece::Fed(count) => left -= count,
-            Piece::End if drive.held.as_slice().is_empty() => return End::Whole,
+            Piece::End if drive.held.is_empty() => return End::Whole,
             Piece::End => return End::Broken,
             Piece::ReadFault => return End::ReadFault,
             Piece::NoMemory => return End::NoMemory,
