@@ -1,0 +1,3 @@
+pub mod Drive
+pub mod Reading
+pub mod Running

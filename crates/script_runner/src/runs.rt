@@ -1,0 +1,58 @@
+//! The top call of a run.
+ghost use Rattle.std.specs.Prelude.{◌≡◌, ◌⊎◌, ◌≤◌, ◌^◌};
+ghost use Rattle.asp_base.specs.Causes.{Rose};
+ghost use Rattle.keeper.specs.Items.{IsEmptyTold};
+ghost use Rattle.script_runner.specs.declared.ending.End.{End};
+ghost use Rattle.script_runner.specs.Drive.{IsDrive, TellsScript, TellsFewer, status_number};
+
+use crate::drive::Drive;
+use crate::ending::status_number;
+use crate::running::run;
+use asp_base::{Sink, Source};
+use held_lines::HeldLines;
+use keeper::{Keeper, Ran};
+use page_script::Script;
+use std::alloc::Global;
+
+/// Runs the page script on the source, writes the line of each step before the next line is run, and
+/// hands the keeper back. At most `most` bytes are taken, at most 2^40.
+///
+/// The status is 0 where the input was a script, all of whose lines were run and printed; 3 where a
+/// line is none, or none that may follow, or is longer than a line may be, or the input ended inside
+/// one; 4 and 5 where the source or the sink failed; 6 where memory was wanting; 7 where the most bytes
+/// were taken and their whole lines were run. The first of these in time decides, and what was
+/// written before stays.
+pub fn run_drive<S: Source, T: Sink, K: Keeper>(
+    alloc: Global,
+    most: u64,
+    source: &mut S,
+    sink: &mut T,
+    keeper: K,
+) -> Ran<K>
+    requires most { most ≤ 2 ^ 40 }
+    requires no_faults { K.count keeper ≡ 0 }
+    requires empty { IsEmptyTold (K.told keeper) }
+
+    // There is one ending, whose number is the status, and one run that ended so.
+    ensures ran { (end : End) × (result.status ≡ status_number end)
+        × IsDrive K.can_count most (S.told source.old) (S.told source.new) (T.taken sink.old) (T.taken sink.new) (K.told result.keeper) (K.count result.keeper) end }
+    ensures read { result.status ≡ 4 → Rose (S.faults source.old) (S.faults source.new) }
+    ensures write { result.status ≡ 5 → Rose (T.faults sink.old) (T.faults sink.new) }
+
+    // Where the input is a script and neither source nor sink fails, all of it is run, if memory is there.
+    ensures broken { result.status ≡ 3 → TellsScript (S.told source.old) → ⊥ }
+    ensures complete { TellsScript (S.told source.old) → TellsFewer (S.told source.old) most → (Rose (S.faults source.old) (S.faults source.new) → ⊥)
+        → (Rose (T.faults sink.old) (T.faults sink.new) → ⊥) → (result.status ≡ 0) ⊎ (result.status ≡ 6) }
+    ensures floor { K.floor result.keeper ≡ K.floor keeper }
+{
+    let mut drive = Drive {
+        held: HeldLines::new(alloc),
+        script: Script::new(alloc, keeper),
+        out: Vec::new(alloc),
+    };
+    let end = run(most, &mut drive, source, sink);
+    Ran {
+        status: status_number(end),
+        keeper: drive.script.into_keeper(),
+    }
+}
