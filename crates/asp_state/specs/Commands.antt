@@ -26,6 +26,11 @@ abbrev pub IfReplay : Command → Type 0 → Type 0
 IfReplay commands.Replay P = P
 IfReplay command P = ⊤
 
+-- a fact of a run of a page script
+abbrev pub IfDrive : Command → Type 0 → Type 0
+IfDrive commands.Drive P = P
+IfDrive command P = ⊤
+
 -- the line was written on status 0, and a front of it on status 5; there is no other
 abbrev pub WritesLine : ℕ → Option (List ℕ) → Option (List ℕ) → List ℕ → Type 0
 WritesLine status sink sink' line = ((status ≡ 0) × Takes sink sink' line) ⊎ ((status ≡ 5) × TakesFront sink sink' line)

@@ -49,9 +49,12 @@ unfoldable pub id_of : List (List ℕ) → Option Command
 id_of (name ∷ digits ∷ []) = if bytes_eq name (codes "id") then id_with (hex_bytes 15 digits) else None
 id_of words = None
 
--- `replay`
+-- `replay`, and `drive`
 unfoldable pub single_of : List (List ℕ) → Option Command
-single_of (name ∷ []) = if bytes_eq name (codes "replay") then Some commands.Replay else None
+single_of (name ∷ []) =
+    if bytes_eq name (codes "replay") then Some commands.Replay
+    else (if bytes_eq name (codes "drive") then Some commands.Drive
+    else None)
 single_of words = None
 
 -- the first of two that there is

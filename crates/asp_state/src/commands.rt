@@ -5,10 +5,12 @@ ghost use Rattle.journal_replay.specs.declared.endings.End.{End as ReplayEnd};
 ghost use Rattle.journal_replay.specs.Replay.{IsReplay, IsStatusOf, TellsJournal, TellsNoJournal, status_number as replay_status};
 ghost use Rattle.keeper.specs.Items.{IsEmptyTold};
 ghost use Rattle.load_generator.specs.Run.{IsLoad};
+ghost use Rattle.script_runner.specs.declared.ending.End.{End as DriveEnd};
+ghost use Rattle.script_runner.specs.Drive.{IsDrive, TellsFewer, TellsScript, status_number as drive_status};
 ghost use Rattle.session_machine.specs.declared.entry.Entry.{Entry};
 ghost use Rattle.session_id.specs.Identifiers.{text_of};
 ghost use Rattle.asp_state.specs.declared.pipe.End.{End};
-ghost use Rattle.asp_state.specs.Commands.{IfPipe, IfLoad, IfReplay, IfId, WritesLine};
+ghost use Rattle.asp_state.specs.Commands.{IfPipe, IfLoad, IfReplay, IfDrive, IfId, WritesLine};
 ghost use Rattle.asp_state.specs.Run.{IsRun, IsWholeInput, status_number};
 ghost use Rattle.asp_state.specs.Words.{command_of};
 
@@ -19,6 +21,7 @@ use asp_base::{Sink, Source};
 use journal_replay::run_replay;
 use keeper::{Keeper, Ran};
 use load_generator::run_load;
+use script_runner::run_drive;
 use std::alloc::Global;
 
 /// Does what the words of the command line say, and answers the exit status and the keeper. It waits
@@ -26,7 +29,8 @@ use std::alloc::Global;
 ///
 /// The status is 2 exactly where the words are none of the table of commands; the words are judged
 /// first and without memory, and nothing is read or written then. The other statuses of `pipe` and
-/// `trace` are those of `run_pipe`, those of `load` and `replay` those of `run_load` and `run_replay`. `id` reads nothing and takes no
+/// `trace` are those of `run_pipe`, those of `load`, `replay` and `drive` those of `run_load`,
+/// `run_replay` and `run_drive`. `id` reads nothing and takes no
 /// memory; its status is 5 where the sink failed, else 0.
 pub fn command<S: Source, T: Sink, K: Keeper>(
     alloc: Global,
@@ -60,6 +64,13 @@ pub fn command<S: Source, T: Sink, K: Keeper>(
     ensures no_journal { IfSome (command_of (map string_bytes words.now)) (λ c. IfReplay c (TellsNoJournal (S.told source.old) (2 ^ 40)
         → (Rose (S.faults source.old) (S.faults source.new) → ⊥) → (Rose (T.faults sink.old) (T.faults sink.new) → ⊥) → (result.status ≡ 3) ⊎ (result.status ≡ 6))) }
 
+    // `drive` is one run of a page script; one that is whole is run whole where neither source nor sink fails, if memory is there.
+    ensures drive { IfSome (command_of (map string_bytes words.now)) (λ c. IfDrive c ((end : DriveEnd) × (result.status ≡ drive_status end)
+        × IsDrive K.can_count (2 ^ 40) (S.told source.old) (S.told source.new) (T.taken sink.old) (T.taken sink.new) (K.told result.keeper) (K.count result.keeper) end)) }
+    ensures no_script { IfSome (command_of (map string_bytes words.now)) (λ c. IfDrive c (result.status ≡ 3 → TellsScript (S.told source.old) → ⊥)) }
+    ensures driven { IfSome (command_of (map string_bytes words.now)) (λ c. IfDrive c (TellsScript (S.told source.old) → TellsFewer (S.told source.old) (2 ^ 40)
+        → (Rose (S.faults source.old) (S.faults source.new) → ⊥) → (Rose (T.faults sink.old) (T.faults sink.new) → ⊥) → (result.status ≡ 0) ⊎ (result.status ≡ 6))) }
+
     // `id` writes the identifier and a line feed.
     ensures id { IfSome (command_of (map string_bytes words.now)) (λ c. IfId c (λ bytes. (source.new ≡ source.old) × (result.keeper ≡ keeper)
         × WritesLine result.status (T.taken sink.old) (T.taken sink.new) (text_of bytes ++ 10 ∷ []))) }
@@ -76,6 +87,7 @@ pub fn command<S: Source, T: Sink, K: Keeper>(
             status: run_replay(alloc, MOST_INPUT, source, sink),
             keeper,
         },
+        Some(Command::Drive) => run_drive(alloc, MOST_INPUT, source, sink, keeper),
         None => Ran { status: 2, keeper },
     }
 }

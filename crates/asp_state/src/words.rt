@@ -31,6 +31,8 @@ pub enum Command {
     Id([u8; 15]),
     /// Judge the journal on the source.
     Replay,
+    /// Run the page script on the source.
+    Drive,
 }
 
 /// A run with these numbers, where each is in its range.
@@ -120,6 +122,9 @@ fn single_of(words: &[String]) -> Option<Command>
     };
     if name.as_str() == "replay" {
         return Some(Command::Replay);
+    }
+    if name.as_str() == "drive" {
+        return Some(Command::Drive);
     }
     None
 }
