@@ -1,13 +1,13 @@
 -- A run of a script, where nothing fails, runs it all.
-use Rattle.std.proofs.Common.{◌≡◌, ℕ, ◌<◌, ◌≤◌, List, [], ◌∷◌, ◌++◌, length, Option, Some, None, refl, sym, ap, ◌∙◌, arith, subst, inl, inr, append_assoc, append-nil, length-append}
+use Rattle.std.proofs.Common.{◌≡◌, ℕ, ◌<◌, List, [], ◌∷◌, ◌++◌, length, Option, Some, None, refl, sym, ap, ◌∙◌, arith, subst, inl, inr, append_assoc, append-nil, length-append}
 use Rattle.std.specs.Prelude.{◌⊎◌, ◌≢◌}
 use Rattle.std.proofs.lemmas.List.Elements.{All-head, All-tail}
-use Rattle.plain_words.specs.Words.{HasNo, SplitsAt}
+use Rattle.plain_words.specs.Words.{HasNo}
 use Rattle.plain_words.proofs.SplitLemmas.{split_one}
 use Rattle.session_machine.specs.declared.item.Item.{Item}
 use Rattle.page_script.specs.declared.line.Line.{Line}
-use Rattle.page_script.specs.Lines.{line_text, IsLine, most_line}
-use Rattle.page_script.specs.World.{World, empty_world, MayFollow, Leads}
+use Rattle.page_script.specs.Lines.{line_text, IsLine}
+use Rattle.page_script.specs.World.{World, empty_world, Leads}
 use Rattle.page_script.proofs.ReadingLemmas.{one_line_each, line_feed_nowhere}
 use Rattle.script_runner.specs.declared.ending.End.{End}
 use Rattle.script_runner.specs.declared.ending.End.TheVariants as ends
@@ -80,7 +80,7 @@ wrong_left world from to rest more [] output wrong is lines leads same =
     some_front wrong.text wrong.behind more (ap (λ t. t ++ more) (sym wrong.first.joined) ∙ is)
 wrong_left world from to rest more (line ∷ script) output wrong is lines leads same =
     let parts = split_one 10 wrong.text (wrong.behind ++ more) (line_text line) (script_text script) wrong.first.first (line_feed_nowhere (line_text line) line lines.0)
-        (sym (append_assoc wrong.text (10 ∷ wrong.behind) more) ∙ ap (λ t. t ++ more) (sym wrong.first.joined) ∙ is) in
+    (sym (append_assoc wrong.text (10 ∷ wrong.behind) more) ∙ ap (λ t. t ++ more) (sym wrong.first.joined) ∙ is) in
     wrong.none line (subst (λ t. IsLine t line) (sym parts.0) lines.0) (MayFollow-same from world line (sym same) (MayFollow-of_step from line leads.0 leads.1 leads.3))
 
 -- nor does one that is longer than a line, or that nothing follows

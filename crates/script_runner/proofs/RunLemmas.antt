@@ -1,5 +1,5 @@
 -- A run from its beginning to its end.
-use Rattle.std.proofs.Common.{◌≡◌, ℕ, ◌+◌, ◌-◌, ◌<◌, ◌≤◌, List, [], ◌∷◌, ◌++◌, length, take, Option, Some, None, refl, sym, ap, ◌∙◌, arith, subst, inl, inr, append_assoc, append-nil, length-append}
+use Rattle.std.proofs.Common.{◌≡◌, ℕ, ◌+◌, ◌-◌, ◌<◌, ◌≤◌, List, [], ◌∷◌, ◌++◌, length, take, Option, refl, sym, ap, ◌∙◌, arith, subst, inl, inr, append_assoc, append-nil, length-append}
 use Rattle.std.specs.Prelude.{◌⊎◌, ◌≢◌, ⊤}
 use Rattle.asp_base.specs.Outside.{Gives, IsAtEnd, Takes, TakesFront}
 use Rattle.asp_base.proofs.OutsideLemmas.{Takes-nil, Takes-trans, Gives-nil, Gives-trans}
@@ -9,12 +9,12 @@ use Rattle.session_machine.specs.History.{nothing}
 use Rattle.shard_core.specs.Standing.{StandsFor}
 use Rattle.page_script.specs.declared.line.Line.{Line}
 use Rattle.page_script.specs.declared.script.Script.{Script}
-use Rattle.page_script.specs.Lines.{line_text, IsLine, most_line}
+use Rattle.page_script.specs.Lines.{IsLine, most_line}
 use Rattle.page_script.specs.World.{World, empty_world, history, MayFollow, IsLawfulWorld, ForcesOldLocks}
 use Rattle.page_script.specs.Standing.{Stands, TakesText, IfTold}
 use Rattle.script_runner.specs.declared.ending.End.{End}
 use Rattle.script_runner.specs.declared.ending.End.TheVariants as ends
-use Rattle.script_runner.specs.Drive.{script_text, AreLines, WroteInPart, EndsAs, IsDrive}
+use Rattle.script_runner.specs.Drive.{script_text, WroteInPart, EndsAs, IsDrive}
 use Rattle.script_runner.specs.Running.{Start, Running, Ended}
 use Rattle.script_runner.proofs.LineLemmas.{script_text-push, line_of, AreLines-push, Leads-push}
 

@@ -38,7 +38,9 @@ fn run_line<K: Keeper>(drive: &mut Drive<K>, len: usize) -> LineEnd
         → Stands K.can_count K.told K.count drive.new.script world ⊎ TakesText K.can_count K.told K.count drive.new.script world (take len drive.old.held) (λ printed. ⊤) }
     ensures floor { K.floor (keeper_of drive.new.script) ≡ K.floor (keeper_of drive.old.script) }
 {
-    let end = drive.script.line(&drive.held.as_slice()[..len], &mut drive.out);
+    let end = drive
+        .script
+        .line(&drive.held.as_slice()[..len], &mut drive.out);
     if let LineEnd::Done = end {
         drive.held.take_line(len);
     }
