@@ -7,6 +7,7 @@ mod exchanges;
 mod heads;
 mod journals;
 mod loads;
+mod scripts;
 
 use crate::pipe::Pipe;
 use crate::runs::run_pipe;

@@ -1,8 +1,13 @@
 //! Journals of whole runs.
+use super::edges::words_of;
+use super::loads::TEN;
 use super::{PIPE, WRITE_AND_READ, joined, run_text, sink, source};
+use crate::commands::command;
 use crate::pipe::Pipe;
 use crate::runs::run_pipe;
+use asp_base::MemorySink;
 use keeper::{FaultyKeeper, ListKeeper};
+use std::alloc::Global;
 use std::test::Fail;
 
 /// The settings of `trace 0 1000 1`.
@@ -69,5 +74,49 @@ fn a_sink_that_fails_ends_a_journal(rt: HostRuntime) -> Result<(), Fail> {
         assert_eq!(rt; ran.status, 5);
         assert_eq!(rt; output.taken(), text);
     }
+    Ok(())
+}
+
+/// The status of `replay`, and what it wrote.
+fn replay(alloc: Global, journal: &[u8]) -> Result<(u8, MemorySink), Fail> {
+    let given = words_of(alloc, &["replay"])?;
+    let mut input = source(alloc, journal, 16_384, &[])?;
+    let mut output = sink(alloc, &[])?;
+    let ran = command(
+        alloc,
+        &given,
+        &mut input,
+        &mut output,
+        ListKeeper::new(alloc),
+    );
+    Ok((ran.status, output))
+}
+
+#[test]
+fn a_traced_load_is_judged_legal(rt: HostRuntime) -> Result<(), Fail> {
+    let alloc = rt.alloc();
+    let pipe = Pipe {
+        start: 1000,
+        ..TRACE
+    };
+    let (traced, journal) = run_text(alloc, pipe, TEN, 16_384)?;
+    let (status, verdict) = replay(alloc, journal.taken())?;
+    assert_eq!(rt; traced, 0);
+    assert_eq!(rt; status, 0);
+    assert_eq!(rt; verdict.taken(), b"legal 10\n".as_slice());
+    Ok(())
+}
+
+#[test]
+fn a_write_over_a_lock_is_judged_illegal(rt: HostRuntime) -> Result<(), Fail> {
+    let alloc = rt.alloc();
+    let lines =
+        b"0 0 0 0 x2f61 write 0 20 0 x78 : done\n0 1000 0 1 x2f61 acquire : found 1 20 0 x78\n0 2000 0 0 x2f61 write 0 20 0 x79 : done\n";
+    let (status, verdict) = replay(alloc, joined(alloc, HEAD, lines)?.as_slice())?;
+    assert_eq!(rt; status, 8);
+    assert_eq!(rt;
+        verdict.taken(),
+        b"place 2 expected locked 1 1 found done\n".as_slice()
+    );
     Ok(())
 }
