@@ -20,7 +20,7 @@ use Rattle.journal_replay.specs.declared.endings.End.{End}
 use Rattle.journal_replay.specs.declared.endings.End.TheVariants as ends
 use Rattle.journal_replay.specs.declared.lines.Replaying.{Replaying}
 use Rattle.journal_replay.specs.Progress.{Checks, HasReplayed, HasLine, IsShort, GoesOn, Running, StopsFor, Tells, Waits, end_of}
-use Rattle.journal_replay.specs.Replay.{EndsAs, GivesLocks, InputStopsAt, IsAll, IsDue, IsJudged, IsReplay, IsStatusOf, TellsJournal, TellsNoJournal, judgement_status, status_number, stop_line}
+use Rattle.journal_replay.specs.Replay.{EndsAs, GivesLocks, InputStopsAt, IsAll, IsDue, IsJudged, IsReplay, IsStatusOf, TellsJournal, TellsNoJournal, status_number, stop_line}
 
 -- ---- what is found at the end of the input
 
