@@ -131,6 +131,7 @@ module _ (CanCount : ℕ → Type 0) (pipe : Pipe) (source source' : Option (Lis
       rest = s.held;
       list = run.progress.list;
       given = run.given;
+      within = omega (arith, run.left_is);
       spelled = run.progress.spelled;
       plain = run.progress.plain;
       counts = run.progress.desk.counts;
@@ -174,6 +175,7 @@ ended-write CanCount pipe source source' sink sink' sink'' s s' left run part =
       rest = s'.held;
       list = progress.list;
       given = run.given;
+      within = omega (arith, run.left_is);
       spelled = progress.spelled;
       plain = progress.plain;
       counts = progress.desk.counts;
@@ -194,6 +196,7 @@ ended-short CanCount pipe source source' sink sink' sink'' s s' left run short =
       rest = s'.held;
       list = progress.list;
       given = run.given;
+      within = omega (arith, run.left_is);
       spelled = progress.spelled;
       plain = progress.plain;
       counts = progress.desk.counts;
@@ -211,6 +214,7 @@ ended-unbegun CanCount pipe source sink sink' s none stands front = record {
   rest = s.held;
   list = [];
   given = Gives-nil source;
+  within = omega arith;
   spelled = sym none;
   plain = refl;
   counts = tt;
@@ -221,13 +225,14 @@ ended-unbegun CanCount pipe source sink sink' s none stands front = record {
 
 -- memory was wanting for a piece that was given
 pub ended-unfed : (CanCount : ℕ → Type 0) (pipe : Pipe) (source source' source'' : Option (List ℕ × List ℕ)) (sink sink' : Option (List ℕ)) (piece : List ℕ) (s : ServerState) (left : ℕ)
-    → Running CanCount pipe source source' sink sink' s left → Gives source' source'' piece → IsRun CanCount pipe source source'' sink sink' s.told s.faults ends.NoMemory
-ended-unfed CanCount pipe source source' source'' sink sink' piece s left run gives = record {
+    → Running CanCount pipe source source' sink sink' s left → Gives source' source'' piece → length piece ≤ left → IsRun CanCount pipe source source'' sink sink' s.told s.faults ends.NoMemory
+ended-unfed CanCount pipe source source' source'' sink sink' piece s left run gives few = record {
   bytes = run.bytes ++ piece;
   messages = run.progress.messages;
   rest = s.held ++ piece;
   list = run.progress.list;
   given = Gives-trans source source' source'' run.bytes piece run.given gives;
+  within = omega (arith, run.left_is, length-append run.bytes piece, few);
   spelled = Spelled-append SpellsRequest run.bytes run.progress.messages s.held piece run.progress.spelled;
   plain = run.progress.plain;
   counts = run.progress.desk.counts;

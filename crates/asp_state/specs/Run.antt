@@ -55,7 +55,7 @@ abbrev pub TellsLocks : Option (List ℕ → Option Item) → List Entry → Typ
 TellsLocks None list = ⊤
 TellsLocks (Some items) list = LocksHold nothing 0 list
 
--- A run: the bytes taken are messages and a rest; the entries are a plain run of the messages; the keeper that is handed back has the
+-- A run: the bytes taken, at most the most, are messages and a rest; the entries are a plain run of the messages; the keeper that is handed back has the
 -- items and the count after them; locks hold what they give; and the replies, or the journal, were written as the ending says. (CanCount says which counts of faults the keeper's
 -- type can have; told and faults are what the keeper tells and counts after the run.)
 pub record IsRun (CanCount : ℕ → Type 0) (pipe : Pipe) (source source' : Option (List ℕ × List ℕ)) (sink sink' : Option (List ℕ))
@@ -65,6 +65,7 @@ pub record IsRun (CanCount : ℕ → Type 0) (pipe : Pipe) (source source' : Opt
   pub rest : List ℕ
   pub list : List Entry
   pub given : Gives source source' bytes
+  pub within : length bytes ≤ pipe.most
   pub spelled : Spelled SpellsRequest bytes messages rest
   pub plain : IsPlainRun pipe.start pipe.step pipe.first messages list
   pub counts : AllByRecursion (λ e. CanCount e.faults) list

@@ -31,7 +31,7 @@ pub fn take_piece<S: Source>(source: &mut S, stream: &mut Stream, most: u64) -> 
     ensures fed { IfFed result (λ n. (0 < n) × (n ≤ most) × ((piece : List ℕ) × (length piece ≡ n) × Gives (S.told source.old) (S.told source.new) piece
         × (stream.new ≡ record stream.old { reader = fed stream.old.reader piece }))) }
     ensures end { result ≡ Piece.End → IsAtEnd (S.told source.new) × Gives (S.told source.old) (S.told source.new) [] × (stream.new ≡ stream.old) }
-    ensures no_memory { result ≡ Piece.NoMemory → (piece : List ℕ) × Gives (S.told source.old) (S.told source.new) piece }
+    ensures no_memory { result ≡ Piece.NoMemory → (piece : List ℕ) × Gives (S.told source.old) (S.told source.new) piece × (length piece ≤ most) }
     ensures fault { result ≡ Piece.ReadFault → Gives (S.told source.old) (S.told source.new) [] × Rose (S.faults source.old) (S.faults source.new) }
     ensures faults { S.faults source.old ≤ S.faults source.new }
 {

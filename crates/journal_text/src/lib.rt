@@ -7,7 +7,6 @@ mod checker;
 mod content_words;
 mod entry_words;
 mod head_words;
-mod held_lines;
 mod judgement;
 mod laws;
 mod number_words;

@@ -8,8 +8,8 @@ ghost use Rattle.journal_text.specs.Next.{IfHead, IfEntry, IfNotAJournal, taken_
 use crate::MOST_LINE;
 use crate::entry_words::read_entry;
 use crate::head_words::read_head;
-use crate::held_lines::HeldLines;
 use asp_base::NoMemory;
+use held_lines::HeldLines;
 use session_machine::Entry;
 use std::alloc::Global;
 use std::marker::Model;

@@ -49,7 +49,7 @@ returns-in-NoMemory-clause-ran g c =
     let gave = c.in-NoMemory.ensures.no_memory refl in
     ended-unfed g.K.Keeper.can_count c.args.pipe (g.S.Source.told c.args.source.now) (g.S.Source.told c.loop-left.source) (g.S.Source.told c.take_piece.new.source) (g.T.Sink.taken c.args.sink.now) (g.T.Sink.taken c.loop-left.sink) gave.0
     (state_of c.loop-left.server (g.K.Keeper.told c.loop-left.server.desk.keeper) (g.K.Keeper.count c.loop-left.server.desk.keeper))
-    c.loop-left.left c.loop-left.invariant.running gave.1
+    c.loop-left.left c.loop-left.invariant.running gave.1 gave.2
 
 pub loop-left-preserved : goal.loop-left-preserved
 loop-left-preserved g c =
