@@ -1,7 +1,8 @@
 -- The source and the sink in memory, as contracts see them.
 use Rattle.std.specs.Prelude.{◌≡◌, ℕ, ◌+◌, ◌-◌, ◌^◌, ◌<◌, ◌⊎◌, List, length, min, Contains}
 
--- A source: the bytes given and left, the most bytes of a read, how many reads were made, which of them fail, and how many did.
+-- A source: the bytes given and left, the most bytes of a read, how many reads were made, which of
+-- them fail, and how many did.
 pub record SourceInMemory : Type 0 where
   pub given : List ℕ
   pub left : List ℕ
@@ -10,7 +11,8 @@ pub record SourceInMemory : Type 0 where
   pub fails : List ℕ
   pub faults : ℕ
 
--- A sink: the bytes taken, how many more it has room for, the most bytes of a write, how many writes were made, which of them fail, and how many did.
+-- A sink: the bytes taken, how many more it has room for, the most bytes of a write, how many
+-- writes were made, which of them fail, and how many did.
 pub record SinkInMemory : Type 0 where
   pub taken : List ℕ
   pub room : ℕ
@@ -39,4 +41,5 @@ write_count sink piece = min (min (length piece) sink.piece) sink.room
 
 -- the write is a listed one, or there is no room for any of its bytes
 abbrev pub FailsWrite : SinkInMemory → List ℕ → Type 0
-FailsWrite sink piece = Contains sink.fails sink.calls ⊎ ((write_count sink piece ≡ 0) × (0 < length piece))
+FailsWrite sink piece = Contains sink.fails sink.calls
+    ⊎ ((write_count sink piece ≡ 0) × (0 < length piece))

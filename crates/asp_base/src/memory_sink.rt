@@ -1,4 +1,5 @@
-//! Sinks in memory: one that keeps its bytes and fails where it is told to, and one that only counts.
+//! Sinks in memory: one that keeps its bytes and fails where it is told to, and one that only
+//! counts.
 ghost use Rattle.std.specs.Prelude.{◌≡◌, ◌<◌, ◌↔◌, ◌+◌, ◌-◌, [], length, min, Some, None, IfOk, IsOkAnd, IsErr, Contains, ◌^◌};
 ghost use Rattle.asp_base.specs.Causes.{HasCause};
 ghost use Rattle.asp_base.specs.InMemory.{one_more, write_count, FailsWrite};
@@ -26,13 +27,22 @@ impl Model for MemorySink {
 
     ghost Value = { SinkInMemory };
 
-    ghost view = { λ s. record { taken = s.kept.items; room = s.room; piece = s.piece; calls = s.calls; fails = s.fails.items; faults = s.faults } };
+    ghost view = { λ s. record {
+      taken = s.kept.items;
+      room = s.room;
+      piece = s.piece;
+      calls =
+          s.calls;
+      fails = s.fails.items;
+      faults = s.faults;
+    } };
 
     ghost invariant = { λ s. (vec_len s.kept + s.room ≤ vec_capacity s.kept) × (0 < s.piece) };
 }
 
 impl MemorySink {
-    /// A sink with room for `room` bytes. `fails` lists the numbers of the writes that fail, from 0;
+    /// A sink with room for `room` bytes. `fails` lists the numbers of the writes that fail, from
+    /// 0;
     /// a failed write takes nothing. The only error is want of memory for the room.
     pub fn new(
         alloc: Global,
@@ -41,7 +51,15 @@ impl MemorySink {
         fails: Vec<u64>,
     ) -> Result<MemorySink, NoMemory>
         requires { 0 < piece }
-        ensures { IfOk result (λ s. s ≡ record { taken = []; room = room; piece = piece; calls = 0; fails = fails.items; faults = 0 }) }
+        ensures { IfOk result (λ s. s ≡ record {
+          taken = [];
+          room = room;
+          piece = piece;
+          calls =
+              0;
+          fails = fails.items;
+          faults = 0;
+        }) }
     {
         let room = room as usize;
         Ok(MemorySink {
@@ -78,7 +96,8 @@ impl Sink for MemorySink {
         ensures writes { Writes (Some self.old.taken) (Some self.new.taken) result piece.now }
         ensures cause { HasCause self.old.faults self.new.faults result }
 
-        // It fails at the listed writes, where it has no room for any of the bytes, and nowhere else.
+        // It fails at the listed writes, where it has no room for any of the bytes, and nowhere
+        // else.
         ensures fails { IsErr result ↔ FailsWrite self.old piece.now }
         ensures count { IfOk result (λ n. n ≡ write_count self.old piece.now) }
         ensures calls { self.new.calls ≡ one_more self.old.calls }

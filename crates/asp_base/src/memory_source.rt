@@ -41,7 +41,15 @@ impl Model for MemorySource {
 
     ghost Value = { SourceInMemory };
 
-    ghost view = { λ s. record { given = take s.at s.text; left = drop s.at s.text; piece = s.piece; calls = s.calls; fails = s.fails.items; faults = s.faults } };
+    ghost view = { λ s. record {
+      given = take s.at s.text;
+      left = drop s.at s.text;
+      piece =
+          s.piece;
+      calls = s.calls;
+      fails = s.fails.items;
+      faults = s.faults;
+    } };
 
     ghost invariant = { λ s. (s.at ≤ length s.text) × (0 < s.piece) };
 }
@@ -51,7 +59,15 @@ impl MemorySource {
     /// gives nothing.
     pub fn new(text: Bytes, piece: u64, fails: Vec<u64>) -> MemorySource
         requires { 0 < piece }
-        ensures { result ≡ record { given = []; left = text; piece = piece; calls = 0; fails = fails.items; faults = 0 } }
+        ensures { result ≡ record {
+          given = [];
+          left = text;
+          piece = piece;
+          calls = 0;
+          fails =
+              fails.items;
+          faults = 0;
+        } }
     {
         MemorySource {
             text,
@@ -71,7 +87,8 @@ impl Source for MemorySource {
 
     fn read(&mut self, buf: &mut [u8]) -> Result<usize, Failed>
         requires { 0 < length buf.old }
-        ensures reads { Reads (Some (self.old.given, self.old.left)) (Some (self.new.given, self.new.left)) result buf.new }
+        ensures reads { Reads (Some (self.old.given, self.old.left))
+            (Some (self.new.given, self.new.left)) result buf.new }
         ensures cause { HasCause self.old.faults self.new.faults result }
 
         // It fails at the listed reads and nowhere else.
@@ -103,7 +120,12 @@ impl Model for SureSource {
 
     ghost Value = { SureText };
 
-    ghost view = { λ s. record { given = take s.at s.text; left = drop s.at s.text; piece = s.piece } };
+    ghost view = { λ s. record {
+      given = take s.at s.text;
+      left = drop s.at s.text;
+      piece =
+          s.piece;
+    } };
 
     ghost invariant = { λ s. (s.at ≤ length s.text) × (0 < s.piece) };
 }
@@ -125,9 +147,11 @@ impl Source for SureSource {
 
     fn read(&mut self, buf: &mut [u8]) -> Result<usize, Failed>
         requires { 0 < length buf.old }
-        ensures reads { Reads (Some (self.old.given, self.old.left)) (Some (self.new.given, self.new.left)) result buf.new }
+        ensures reads { Reads (Some (self.old.given, self.old.left))
+            (Some (self.new.given, self.new.left)) result buf.new }
         ensures cause { HasCause 0 0 result }
-        ensures count { IsOkAnd result (λ n. n ≡ min (min (length buf.old) self.old.piece) (length self.old.left)) }
+        ensures count { IsOkAnd result (λ n. n
+            ≡ min (min (length buf.old) self.old.piece) (length self.old.left)) }
     {
         Ok(give(&self.text, &mut self.at, self.piece, buf))
     }

@@ -38,15 +38,18 @@ impl StepClock {
         StepClock { next: start, step }
     }
 
-    /// The next moment: the k-th call, from 0, gives the lesser of `start + k * step` and the latest
+    /// The next moment: the k-th call, from 0, gives the lesser of `start + k * step` and the
+    /// latest
     /// moment.
     pub fn tick(&mut self) -> u64
         ensures moment { result ≡ self.old.next }
         ensures in_range { result ≤ 2 ^ 62 }
         ensures next { self.new ≡ ticked self.old }
 
-        // Where the next moment is the k-th of a clock that began at start, the one after it is the k+1-st.
-        ensures in_order { (start k : ℕ) → self.old.next ≡ step_moment start self.old.step k → self.new.next ≡ step_moment start self.old.step (k + 1) }
+        // Where the next moment is the k-th of a clock that began at start, the one after it is the
+        // k+1-st.
+        ensures in_order { (start k : ℕ) → self.old.next ≡ step_moment start self.old.step k
+            → self.new.next ≡ step_moment start self.old.step (k + 1) }
     {
         let now = self.next;
         self.next = (now + self.step).min(LAST_MOMENT);

@@ -15,13 +15,15 @@ pub Extends-trans : (a b c : List ℕ) → Extends a b → Extends b c → Exten
 Extends-trans a b c (x, p) (y, q) = (x ++ y, q ∙ ap (λ t. t ++ y) p ∙ append_assoc a x y)
 
 -- a failure behind what was appended
-pub failed_behind : {T E : Type 0} (r : Result T E) (a b c : List ℕ) → Extends a b → OnErr r (Extends b c) → OnErr r (Extends a c)
+pub failed_behind : {T E : Type 0} (r : Result T E) (a b c : List ℕ) → Extends a b
+    → OnErr r (Extends b c) → OnErr r (Extends a c)
 failed_behind (Ok x) a b c before failed = tt
 failed_behind (Err x) a b c before failed = Extends-trans a b c before failed
 
 -- ---- hexadecimal digits
 
-pub encode_with-append : (digits xs ys : List ℕ) → encode_with digits (xs ++ ys) ≡ encode_with digits xs ++ encode_with digits ys
+pub encode_with-append : (digits xs ys : List ℕ)
+    → encode_with digits (xs ++ ys) ≡ encode_with digits xs ++ encode_with digits ys
 unfolding encode_with
 encode_with-append digits [] ys = refl
 encode_with-append digits (x ∷ xs) ys = rw (encode_with-append digits xs ys) refl

@@ -33,7 +33,8 @@ pub decimal-short : (n : ℕ) → n < 2 ^ 64 → length (decimal n) ≤ 20
 decimal-short n small = length-decimal-le 20 n (omega arith) (omega arith) small
 
 decimal-number : (n : ℕ) → n < 2 ^ 64 → is_number (decimal n) ≡ true
-decimal-number n small = is_number_by (decimal n) (decimal_is_IsNumeral n small).0.0 (decimal-short n small) (decimal_digits n small)
+decimal-number n small = is_number_by (decimal n) (decimal_is_IsNumeral n small).0.0
+    (decimal-short n small) (decimal_digits n small)
 
 -- a number reads back
 pub number_of-decimal : (n max : ℕ) → n < 2 ^ 64 → n ≤ max → number_of (decimal n) max ≡ Some n
@@ -46,14 +47,17 @@ at_least-some least n low =
     let test : nat_le least n ≡ true = grind (arith, nat_tests) in
     rw test refl
 
-pub number_or-decimal : (default least most n : ℕ) → n < 2 ^ 64 → least ≤ n → n ≤ most → number_or default least most (one (decimal n)) ≡ Some n
+pub number_or-decimal : (default least most n : ℕ) → n < 2 ^ 64 → least ≤ n → n ≤ most
+    → number_or default least most (one (decimal n)) ≡ Some n
 number_or-decimal default least most n small low high =
     ap (at_least least) (number_of-decimal n most small high) ∙ at_least-some least n low
 
-pub number_needed-decimal : (most n : ℕ) → n < 2 ^ 64 → n ≤ most → number_needed most (one (decimal n)) ≡ Some n
+pub number_needed-decimal : (most n : ℕ) → n < 2 ^ 64 → n ≤ most
+    → number_needed most (one (decimal n)) ≡ Some n
 number_needed-decimal most n small high = number_of-decimal n most small high
 
-pub minutes-decimal : (most n : ℕ) → n < 2 ^ 64 → 1 ≤ n → n ≤ most → at_least 1 (number_needed most (one (decimal n))) ≡ Some n
+pub minutes-decimal : (most n : ℕ) → n < 2 ^ 64 → 1 ≤ n → n ≤ most
+    → at_least 1 (number_needed most (one (decimal n))) ≡ Some n
 minutes-decimal most n small low high =
     ap (at_least 1) (number_of-decimal n most small high) ∙ at_least-some 1 n low
 
@@ -77,11 +81,13 @@ skip_ows-digits (c ∷ cs) h =
 pub decimal-trimmed : (n : ℕ) → n < 2 ^ 64 → trim_ows (32 ∷ decimal n) ≡ decimal n
 decimal-trimmed n small =
     let digits = decimal_pass n small in
-    trim_ows_space (decimal n) (skip_ows-digits (decimal n) digits) (skip_ows-digits (reverse (decimal n)) (AllPass-reverse is_ascii_digit (decimal n) digits))
+    trim_ows_space (decimal n) (skip_ows-digits (decimal n) digits)
+    (skip_ows-digits (reverse (decimal n)) (AllPass-reverse is_ascii_digit (decimal n) digits))
 
 digit_is_value : (c : ℕ) → is_ascii_digit c ≡ true → is_value_byte c ≡ true
 digit_is_value c h = grind (arith, nat_tests)
 
 pub decimal-value : (n : ℕ) → n < 2 ^ 64 → AllPass is_value_byte (decimal n)
 decimal-value n small =
-    All-weaker (λ b. IsTrue (is_ascii_digit b)) (λ b. IsTrue (is_value_byte b)) digit_is_value (decimal n) (decimal_pass n small)
+    All-weaker (λ b. IsTrue (is_ascii_digit b)) (λ b. IsTrue (is_value_byte b)) digit_is_value
+    (decimal n) (decimal_pass n small)

@@ -11,11 +11,13 @@ use Rattle.asp_messages.specs.Stream.{IsWaiting}
 
 -- ---- numbers in fields are in range
 
-at_least-in : (least : ℕ) (a : Option ℕ) (n most : ℕ) → ((k : ℕ) → a ≡ Some k → k ≤ most) → at_least least a ≡ Some n → (least ≤ n) × (n ≤ most)
+at_least-in : (least : ℕ) (a : Option ℕ) (n most : ℕ) → ((k : ℕ) → a ≡ Some k → k ≤ most)
+    → at_least least a ≡ Some n → (least ≤ n) × (n ≤ most)
 at_least-in least None n most small e = cc
 at_least-in least (Some k) n most small e = by_test (nat_le least k) refl e
   where
-    by_test : (b : Bool) → nat_le least k ≡ b → cond b (Some k) None ≡ Some n → (least ≤ n) × (n ≤ most)
+    by_test : (b : Bool) → nat_le least k ≡ b → cond b (Some k) None ≡ Some n
+        → (least ≤ n) × (n ≤ most)
     by_test true test is =
         let same : k ≡ n = cc in
         let low : least ≤ k = grind (arith, nat_tests) in
@@ -23,9 +25,12 @@ at_least-in least (Some k) n most small e = by_test (nat_le least k) refl e
         (omega arith, omega arith)
     by_test false test is = cc
 
-pub number_or-in : (default least most : ℕ) (s : Standing) (n : ℕ) → least ≤ default → default ≤ most → number_or default least most s ≡ Some n → (least ≤ n) × (n ≤ most)
-number_or-in default least most absent n low high e = let same : default ≡ n = cc in (omega arith, omega arith)
-number_or-in default least most (one value) n low high e = at_least-in least (number_of value most) n most (λ k is. number_of-le value most k is) e
+pub number_or-in : (default least most : ℕ) (s : Standing) (n : ℕ) → least ≤ default
+    → default ≤ most → number_or default least most s ≡ Some n → (least ≤ n) × (n ≤ most)
+number_or-in default least most absent n low high e = let same : default ≡ n = cc in
+    (omega arith, omega arith)
+number_or-in default least most (one value) n low high e =
+    at_least-in least (number_of value most) n most (λ k is. number_of-le value most k is) e
 number_or-in default least most twice n low high e = cc
 
 pub number_needed-le : (most : ℕ) (s : Standing) (n : ℕ) → number_needed most s ≡ Some n → n ≤ most
@@ -34,7 +39,8 @@ number_needed-le most (one value) n e = number_of-le value most n e
 number_needed-le most twice n e = cc
 
 pub body_length-le : (fields : List Field) (n : ℕ) → body_length fields ≡ Some n → n ≤ most_body
-body_length-le fields n e = (number_or-in 0 0 most_body (once fields (codes "Content-Length")) n (omega arith) (omega arith) e).1
+body_length-le fields n e = (number_or-in 0 0 most_body (once fields (codes "Content-Length")) n
+    (omega arith) (omega arith) e).1
 
 -- ---- parts of lists
 
@@ -48,9 +54,18 @@ split_alike a b c d len same = (
 -- ---- what waits
 
 -- what waits for more is short, where heads are
-pub waiting-short : {H : Type 0} (IsHead : List ℕ → H → Type 0) (fields : H → List Field) (bytes : List ℕ)
+pub waiting-short : {H : Type 0} (IsHead : List ℕ → H → Type 0) (fields : H → List Field)
+    (bytes : List ℕ)
     → ((front : List ℕ) (head : H) → IsHead front head → length front ≤ most_head)
     → IsWaiting IsHead fields bytes → length bytes < most_head + most_body
 waiting-short IsHead fields bytes heads (inl (none, short)) = omega arith
 waiting-short IsHead fields bytes heads (inr await) =
-    omega (arith, ap length await.bytes_are, length-append await.front await.back, heads await.front await.head await.is_head, body_length-le _ _ await.announced, await.short)
+    omega (
+      arith,
+      ap length await.bytes_are,
+      length-append await.front await.back,
+      heads await.front
+          await.head await.is_head,
+      body_length-le _ _ await.announced,
+      await.short,
+    )

@@ -15,7 +15,8 @@ use Rattle.asp_messages.proofs.RequestLemmas.{named-fits, lock_cookie-le}
 use Rattle.asp_messages.proofs.StreamLemmas.{IsUnique}
 
 -- the head of a spelling, with what comes behind it
-pub reply_reads_more : (bytes : List ℕ) (a : Answer) (s : SpellsReply bytes a) (back : List ℕ) → ReadsResponse (bytes ++ back) s.head (s.body ++ back)
+pub reply_reads_more : (bytes : List ℕ) (a : Answer) (s : SpellsReply bytes a) (back : List ℕ)
+    → ReadsResponse (bytes ++ back) s.head (s.body ++ back)
 reply_reads_more bytes a s back =
     let h = ReadsResponse-append s.framed.front s.head [] (s.body ++ back) s.framed.is_head.reads in
     (h.0, ap (λ t. t ++ back) s.framed.bytes_are ∙ append_assoc s.framed.front s.body back ∙ h.1)
@@ -39,21 +40,27 @@ pub SpellsReply-unique : IsUnique SpellsReply
 SpellsReply-unique bytes front back front' back' a a' is s is' s' =
     let reads = reply_reads_more front a s back in
     let reads' = reply_reads_more front' a' s' back' in
-    let same = response_unique (front ++ back) s.head s'.head (s.body ++ back) (s'.body ++ back') reads (reads'.0, sym is ∙ is' ∙ reads'.1) in
-    let len = some_same _ _ (sym s.framed.announced ∙ ap (λ h. body_length (response_fields h)) same.0 ∙ s'.framed.announced) in
+    let same = response_unique (front ++ back) s.head s'.head (s.body ++ back) (s'.body ++ back')
+    reads (reads'.0, sym is ∙ is' ∙ reads'.1) in
+    let len = some_same _ _ (sym s.framed.announced
+    ∙ ap (λ h. body_length (response_fields h)) same.0 ∙ s'.framed.announced) in
     let parts = split_alike s.body back s'.body back' len same.1 in (
       s.answer_is ∙ ap (λ h. answer_of (status_code h) (response_fields h) s.body) same.0
-          ∙ ap (λ b. answer_of (status_code s'.head) (response_fields s'.head) b) parts.0 ∙ sym s'.answer_is,
+          ∙ ap (λ b. answer_of (status_code s'.head) (response_fields s'.head) b) parts.0
+          ∙ sym s'.answer_is,
       parts.1,
     )
 
 -- what waits for more is short
-pub waiting_reply-short : (bytes : List ℕ) → IsWaiting IsReplyHead response_fields bytes → length bytes < most_head + most_body
-waiting_reply-short bytes waiting = waiting-short IsReplyHead response_fields bytes (λ front head h. h.short) waiting
+pub waiting_reply-short : (bytes : List ℕ) → IsWaiting IsReplyHead response_fields bytes
+    → length bytes < most_head + most_body
+waiting_reply-short bytes waiting = waiting-short IsReplyHead response_fields bytes
+    (λ front head h. h.short) waiting
 
 -- ---- what is spelled is in range
 
-chosen : {A : Type 0} (b : Bool) (x y z : A) (P : Type 0) → (x ≡ z → P) → (y ≡ z → P) → cond b x y ≡ z → P
+chosen : {A : Type 0} (b : Bool) (x y z : A) (P : Type 0) → (x ≡ z → P) → (y ≡ z → P)
+    → cond b x y ≡ z → P
 chosen true x y z P p q e = p e
 chosen false x y z P p q e = q e
 
@@ -63,12 +70,15 @@ no_reply r e = cc
 one_reply : (a r : Reply) → ReplyFits a → Some a ≡ Some r → ReplyFits r
 one_reply a r fits e = let same : a ≡ r = cc in subst ReplyFits same fits
 
-found_reply-fits : (body : List ℕ) (minutes cookie flag : Option ℕ) (r : Reply) → length body ≤ most_body
-    → ((n : ℕ) → minutes ≡ Some n → (1 ≤ n) × (n ≤ most_minutes)) → ((c : ℕ) → cookie ≡ Some c → c ≤ most_cookie)
+found_reply-fits : (body : List ℕ) (minutes cookie flag : Option ℕ) (r : Reply)
+    → length body ≤ most_body
+    → ((n : ℕ) → minutes ≡ Some n → (1 ≤ n) × (n ≤ most_minutes))
+    → ((c : ℕ) → cookie ≡ Some c → c ≤ most_cookie)
     → found_reply body minutes cookie flag ≡ Some r → ReplyFits r
 found_reply-fits body (Some minutes) (Some cookie) (Some flag) r short timeout small e =
     let t = timeout minutes refl in
-    one_reply (Found body minutes (named cookie) (flag == 1)) r (short, (omega (arith, t.0), t.1), named-fits cookie (small cookie refl)) e
+    one_reply (Found body minutes (named cookie) (flag == 1)) r
+    (short, (omega (arith, t.0), t.1), named-fits cookie (small cookie refl)) e
 found_reply-fits body None cookie flag r short timeout small e = no_reply r e
 found_reply-fits body (Some minutes) None flag r short timeout small e = no_reply r e
 found_reply-fits body (Some minutes) (Some cookie) None r short timeout small e = no_reply r e
@@ -77,13 +87,15 @@ done_reply-fits : (body : List ℕ) (r : Reply) → done_reply body ≡ Some r �
 done_reply-fits [] r e = one_reply Done r tt e
 done_reply-fits (byte ∷ bytes) r e = no_reply r e
 
-ok_reply-fits : (timeout : Standing) (body : List ℕ) (found : Option Reply) (r : Reply) → (found ≡ Some r → ReplyFits r)
+ok_reply-fits : (timeout : Standing) (body : List ℕ) (found : Option Reply) (r : Reply)
+    → (found ≡ Some r → ReplyFits r)
     → ok_reply timeout body found ≡ Some r → ReplyFits r
 ok_reply-fits absent body found r fits e = done_reply-fits body r e
 ok_reply-fits (one value) body found r fits e = fits e
 ok_reply-fits twice body found r fits e = fits e
 
-locked_reply-fits : (cookie age : Option ℕ) (r : Reply) → ((c : ℕ) → cookie ≡ Some c → c ≤ most_cookie) → ((a : ℕ) → age ≡ Some a → a ≤ most_age)
+locked_reply-fits : (cookie age : Option ℕ) (r : Reply)
+    → ((c : ℕ) → cookie ≡ Some c → c ≤ most_cookie) → ((a : ℕ) → age ≡ Some a → a ≤ most_age)
     → locked_reply cookie age ≡ Some r → ReplyFits r
 locked_reply-fits (Some cookie) (Some age) r small young e =
     let le = small cookie refl in
@@ -98,25 +110,36 @@ plain_reply-fits status r e =
     (chosen (status == 500) _ _ (Some r) (ReplyFits r) (one_reply KeeperFault r tt)
     (chosen (status == 503) _ _ (Some r) (ReplyFits r) (one_reply NoMemory r tt)
     (chosen (status == 507) _ _ (Some r) (ReplyFits r) (one_reply CookiesOut r tt)
-    (chosen (status == 508) _ _ (Some r) (ReplyFits r) (one_reply PlacesOut r tt) (no_reply r)))))) e
+    (chosen (status == 508) _ _ (Some r) (ReplyFits r) (one_reply PlacesOut r tt) (no_reply r))))))
+    e
 
-minutes-in : (timeout : Standing) (n : ℕ) → at_least 1 (number_needed most_minutes timeout) ≡ Some n → (1 ≤ n) × (n ≤ most_minutes)
+minutes-in : (timeout : Standing) (n : ℕ) → at_least 1 (number_needed most_minutes timeout) ≡ Some n
+    → (1 ≤ n) × (n ≤ most_minutes)
 minutes-in absent n e = cc
-minutes-in (one value) n e = number_or-in 1 1 most_minutes (one value) n (omega arith) (omega arith) e
+minutes-in (one value) n e = number_or-in 1 1 most_minutes (one value) n (omega arith) (omega arith)
+    e
 minutes-in twice n e = cc
 
-reply_of-fits : (status : ℕ) (fields : List Field) (body : List ℕ) (r : Reply) → length body ≤ most_body → reply_of status fields body ≡ Some r → ReplyFits r
+reply_of-fits : (status : ℕ) (fields : List Field) (body : List ℕ) (r : Reply)
+    → length body ≤ most_body → reply_of status fields body ≡ Some r → ReplyFits r
 unfolding reply_of
 reply_of-fits status fields body r short e =
     chosen (status == 200) _ _ (Some r) (ReplyFits r)
-    (ok_reply-fits (once fields (codes "Timeout")) body (found_reply body (minutes_field fields) (lock_cookie_field fields) (action_flags_field fields)) r
-    (found_reply-fits body (minutes_field fields) (lock_cookie_field fields) (action_flags_field fields) r short (minutes-in (once fields (codes "Timeout"))) (lock_cookie-le fields)))
+    (ok_reply-fits (once fields (codes "Timeout")) body
+    (found_reply body (minutes_field fields) (lock_cookie_field fields)
+    (action_flags_field fields)) r
+    (found_reply-fits body (minutes_field fields) (lock_cookie_field fields)
+    (action_flags_field fields) r short (minutes-in (once fields (codes "Timeout")))
+    (lock_cookie-le fields)))
     (chosen (status == 423) _ _ (Some r) (ReplyFits r)
-    (locked_reply-fits (holder_field fields) (age_field fields) r (number_needed-le most_cookie (once fields (codes "LockCookie"))) (number_needed-le most_age (once fields (codes "LockAge"))))
+    (locked_reply-fits (holder_field fields) (age_field fields) r
+    (number_needed-le most_cookie (once fields (codes "LockCookie")))
+    (number_needed-le most_age (once fields (codes "LockAge"))))
     (plain_reply-fits status r))
     e
 
-by_answer : (status : ℕ) (o : Option Reply) (r : Reply) → ((x : Reply) → o ≡ Some x → ReplyFits x) → strange_unless status o ≡ reply r → ReplyFits r
+by_answer : (status : ℕ) (o : Option Reply) (r : Reply) → ((x : Reply) → o ≡ Some x → ReplyFits x)
+    → strange_unless status o ≡ reply r → ReplyFits r
 by_answer status (Some x) r fits e = let same : x ≡ r = cc in subst ReplyFits same (fits x refl)
 by_answer status None r fits e = cc
 
@@ -124,4 +147,5 @@ by_answer status None r fits e = cc
 pub spelled_reply-fits : (bytes : List ℕ) (r : Reply) → SpellsReply bytes (reply r) → ReplyFits r
 spelled_reply-fits bytes r s =
     by_answer (status_code s.head) (reply_of (status_code s.head) (response_fields s.head) s.body) r
-    (λ x is. reply_of-fits (status_code s.head) (response_fields s.head) s.body x (body_length-le _ _ s.framed.announced) is) (sym s.answer_is)
+    (λ x is. reply_of-fits (status_code s.head) (response_fields s.head) s.body x
+    (body_length-le _ _ s.framed.announced) is) (sym s.answer_is)

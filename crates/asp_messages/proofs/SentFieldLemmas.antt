@@ -39,7 +39,8 @@ length_sent n small = sent_number (codes "Content-Length") n refl (omega arith) 
 
 pub first_sent : IsSent first_pair
 unfolding is_token_byte trim_ows
-first_sent = sent_literal (codes "ActionFlags") (codes "1") refl (omega arith) refl refl (omega arith)
+first_sent = sent_literal (codes "ActionFlags") (codes "1") refl (omega arith) refl refl
+    (omega arith)
 
 abbrev pub host_pair : Field
 host_pair = (codes "Host", codes "state")
@@ -59,15 +60,18 @@ host_sent = sent_literal (codes "Host") (codes "state") refl (omega arith) refl 
 
 pub acquire_sent : IsSent acquire_pair
 unfolding is_token_byte trim_ows
-acquire_sent = sent_literal (codes "Exclusive") (codes "acquire") refl (omega arith) refl refl (omega arith)
+acquire_sent = sent_literal (codes "Exclusive") (codes "acquire") refl (omega arith) refl refl
+    (omega arith)
 
 pub release_sent : IsSent release_pair
 unfolding is_token_byte trim_ows
-release_sent = sent_literal (codes "Exclusive") (codes "release") refl (omega arith) refl refl (omega arith)
+release_sent = sent_literal (codes "Exclusive") (codes "release") refl (omega arith) refl refl
+    (omega arith)
 
 pub fresh_sent : IsSent fresh_pair
 unfolding is_token_byte trim_ows
-fresh_sent = sent_literal (codes "ExtraFlags") (codes "1") refl (omega arith) refl refl (omega arith)
+fresh_sent = sent_literal (codes "ExtraFlags") (codes "1") refl (omega arith) refl refl
+    (omega arith)
 
 -- the length of a body reads back
 pub announced : (n : ℕ) → n ≤ most_body → number_or 0 0 most_body (one (decimal n)) ≡ Some n

@@ -47,7 +47,8 @@ print_sent f = simp append_assoc
 
 print_lines : (fs : List Field) → flat_map print_field (map sent fs) ≡ field_lines fs
 print_lines [] = refl
-print_lines (f ∷ fs) = ap (λ t. t ++ flat_map print_field (map sent fs)) (print_sent f) ∙ ap (λ t. field_line f ++ t) (print_lines fs)
+print_lines (f ∷ fs) = ap (λ t. t ++ flat_map print_field (map sent fs)) (print_sent f)
+    ∙ ap (λ t. field_line f ++ t) (print_lines fs)
 
 read_back : (fs : List Field) → AreSent fs → map name_and_value (map sent fs) ≡ fs
 read_back [] h = refl
@@ -56,16 +57,30 @@ read_back (f ∷ fs) (one, others) = rw (one.trimmed, read_back fs others) refl
 are_fields : (fs : List Field) → AreSent fs → All IsField (map sent fs)
 are_fields [] h = All-nil IsField
 are_fields (f ∷ fs) (one, others) =
-    All-cons IsField (sent f) (map sent fs) (record { name = one.name; raw = All-cons (λ b. IsTrue (is_value_byte b)) 32 f.1 refl one.value }) (are_fields fs others)
+    All-cons IsField (sent f) (map sent fs) (record {
+      name = one.name;
+      raw =
+          All-cons (λ b. IsTrue (is_value_byte b)) 32 f.1 refl one.value;
+    }) (are_fields fs others)
 
 lines-short : (fs : List Field) → AreSent fs → length (field_lines fs) ≤ 44 * length fs
 lines-short [] h = omega arith
 lines-short (f ∷ fs) (one, others) =
     let rest = lines-short fs others in
-    omega (arith, one.short, rest, length-append (field_line f) (field_lines fs), length-append (f.0 ++ codes ": " ++ f.1) (codes "\r\n"), length-append (f.0 ++ codes ": ") f.1, length-append f.0 (codes ": "))
+    omega (
+      arith,
+      one.short,
+      rest,
+      length-append (field_line f) (field_lines fs),
+      length-append
+          (f.0 ++ codes ": " ++ f.1) (codes "\r\n"),
+      length-append (f.0 ++ codes ": ") f.1,
+      length-append f.0 (codes ": "),
+    )
 
 -- a field whose parts are written out
-pub sent_literal : (name value : List ℕ) → list_all is_token_byte name ≡ true → 0 < length name → list_all is_value_byte value ≡ true
+pub sent_literal : (name value : List ℕ) → list_all is_token_byte name ≡ true → 0 < length name
+    → list_all is_value_byte value ≡ true
     → trim_ows (32 ∷ value) ≡ value → length name + length value ≤ 40 → IsSent (name, value)
 sent_literal name value token some pass trimmed short = record {
   name = (some, AllPass-from_list_all is_token_byte name token);
@@ -75,7 +90,8 @@ sent_literal name value token some pass trimmed short = record {
 }
 
 -- a field with a number
-pub sent_number : (name : List ℕ) (n : ℕ) → list_all is_token_byte name ≡ true → 0 < length name → length name ≤ 20 → n < 2 ^ 64 → IsSent (name, decimal n)
+pub sent_number : (name : List ℕ) (n : ℕ) → list_all is_token_byte name ≡ true → 0 < length name
+    → length name ≤ 20 → n < 2 ^ 64 → IsSent (name, decimal n)
 sent_number name n token some short small = record {
   name = (some, AllPass-from_list_all is_token_byte name token);
   value = decimal-value n small;
@@ -97,18 +113,23 @@ sent_reply digits phrase fields = record {
 }
 
 abbrev pub reply_lines : List ℕ → List ℕ → List Field → List ℕ
-reply_lines digits phrase fields = line (codes "HTTP/1.1 " ++ digits ++ codes " " ++ phrase) ++ field_lines fields ++ line []
+reply_lines digits phrase fields = line (codes "HTTP/1.1 " ++ digits ++ codes " " ++ phrase)
+    ++ field_lines fields ++ line []
 
-reply_tail : (d p f : List ℕ) → d ++ (32 ∷ p) ++ (13 ∷ 10 ∷ []) ++ (f ++ (13 ∷ 10 ∷ [])) ≡ d ++ (32 ∷ []) ++ p ++ (13 ∷ 10 ∷ []) ++ f ++ (13 ∷ 10 ∷ [])
+reply_tail : (d p f : List ℕ) → d ++ (32 ∷ p) ++ (13 ∷ 10 ∷ []) ++ (f ++ (13 ∷ 10 ∷ [])) ≡ d
+    ++ (32 ∷ []) ++ p ++ (13 ∷ 10 ∷ []) ++ f ++ (13 ∷ 10 ∷ [])
 reply_tail d p f = simp (append_assoc, cons-append)
 
-print_sent_reply : (digits phrase : List ℕ) (fields : List Field) → print_response (sent_reply digits phrase fields) ≡ reply_lines digits phrase fields
+print_sent_reply : (digits phrase : List ℕ) (fields : List Field)
+    → print_response (sent_reply digits phrase fields) ≡ reply_lines digits phrase fields
 unfolding print_response
 print_sent_reply digits phrase fields =
-    ap (λ f. codes "HTTP/1.1 " ++ (digits ++ (32 ∷ phrase) ++ (13 ∷ 10 ∷ []) ++ (f ++ (13 ∷ 10 ∷ [])))) (print_lines fields)
+    ap (λ f. codes "HTTP/1.1 " ++ (digits ++ (32 ∷ phrase) ++ (13 ∷ 10 ∷ [])
+    ++ (f ++ (13 ∷ 10 ∷ [])))) (print_lines fields)
     ∙ ap (λ t. codes "HTTP/1.1 " ++ t) (reply_tail digits phrase (field_lines fields))
 
-reply_lines-short : (digits phrase : List ℕ) (fields : List Field) → length digits ≡ 3 → length phrase ≤ 40 → AreSent fields → length fields ≤ 5
+reply_lines-short : (digits phrase : List ℕ) (fields : List Field) → length digits ≡ 3
+    → length phrase ≤ 40 → AreSent fields → length fields ≤ 5
     → length (reply_lines digits phrase fields) ≤ heads.most_head
 reply_lines-short digits phrase fields three short are few =
     let first = codes "HTTP/1.1 " in
@@ -126,8 +147,10 @@ reply_lines-short digits phrase fields three short are few =
 
 -- what is written of a reply spells it
 pub reply_sent : (digits phrase : List ℕ) (fields : List Field) (body : List ℕ) (answer : Answer)
-    → list_all is_ascii_digit digits ≡ true → length digits ≡ 3 → list_all is_value_byte phrase ≡ true → length phrase ≤ 40
-    → AreSent fields → length fields ≤ 5 → body_length fields ≡ Some (length body) → answer ≡ answer_of (digits_value 10 digits) fields body
+    → list_all is_ascii_digit digits ≡ true → length digits ≡ 3
+    → list_all is_value_byte phrase ≡ true → length phrase ≤ 40
+    → AreSent fields → length fields ≤ 5 → body_length fields ≡ Some (length body)
+    → answer ≡ answer_of (digits_value 10 digits) fields body
     → SpellsReply (reply_lines digits phrase fields ++ body) answer
 reply_sent digits phrase fields body answer all three text short are few announced is =
     let head = sent_reply digits phrase fields in
@@ -167,26 +190,32 @@ sent_request verb target fields = record {
 }
 
 abbrev pub request_lines : List ℕ → List ℕ → List Field → List ℕ
-request_lines verb target fields = line (verb ++ codes " " ++ target ++ codes " HTTP/1.1") ++ field_lines fields ++ line []
+request_lines verb target fields = line (verb ++ codes " " ++ target ++ codes " HTTP/1.1")
+    ++ field_lines fields ++ line []
 
 request_tail : (m t v f : List ℕ)
-    → m ++ (32 ∷ t) ++ (32 ∷ v) ++ (13 ∷ 10 ∷ []) ++ (f ++ (13 ∷ 10 ∷ [])) ≡ m ++ (32 ∷ []) ++ t ++ (32 ∷ v) ++ (13 ∷ 10 ∷ []) ++ f ++ (13 ∷ 10 ∷ [])
+    → m ++ (32 ∷ t) ++ (32 ∷ v) ++ (13 ∷ 10 ∷ []) ++ (f ++ (13 ∷ 10 ∷ [])) ≡ m ++ (32 ∷ []) ++ t
+    ++ (32 ∷ v) ++ (13 ∷ 10 ∷ []) ++ f ++ (13 ∷ 10 ∷ [])
 request_tail m t v f = simp (append_assoc, cons-append)
 
-print_sent_request : (verb target : List ℕ) (fields : List Field) → print_request (sent_request verb target fields) ≡ request_lines verb target fields
+print_sent_request : (verb target : List ℕ) (fields : List Field)
+    → print_request (sent_request verb target fields) ≡ request_lines verb target fields
 unfolding print_request
 print_sent_request verb target fields =
-    ap (λ f. verb ++ (32 ∷ target) ++ (32 ∷ codes "HTTP/1.1") ++ (13 ∷ 10 ∷ []) ++ (f ++ (13 ∷ 10 ∷ []))) (print_lines fields)
+    ap (λ f. verb ++ (32 ∷ target) ++ (32 ∷ codes "HTTP/1.1") ++ (13 ∷ 10 ∷ [])
+    ++ (f ++ (13 ∷ 10 ∷ []))) (print_lines fields)
     ∙ request_tail verb target (codes "HTTP/1.1") (field_lines fields)
 
-request_lines-short : (verb target : List ℕ) (fields : List Field) → length verb ≤ 40 → length target ≤ 3072 → AreSent fields → length fields ≤ 5
+request_lines-short : (verb target : List ℕ) (fields : List Field) → length verb ≤ 40
+    → length target ≤ 3072 → AreSent fields → length fields ≤ 5
     → length (request_lines verb target fields) ≤ heads.most_head
 request_lines-short verb target fields brief short are few =
     let lines = lines-short fields are in
     omega (
       arith,
       lines,
-      length-append (line (verb ++ codes " " ++ target ++ codes " HTTP/1.1") ++ field_lines fields) (line []),
+      length-append (line (verb ++ codes " " ++ target ++ codes " HTTP/1.1") ++ field_lines fields)
+          (line []),
       length-append (line (verb ++ codes " " ++ target ++ codes " HTTP/1.1")) (field_lines fields),
       length-append (verb ++ codes " " ++ target ++ codes " HTTP/1.1") (codes "\r\n"),
       length-append (verb ++ codes " " ++ target) (codes " HTTP/1.1"),
@@ -198,9 +227,11 @@ request_lines-short verb target fields brief short are few =
 pub request_sent : (verb target : List ℕ) (fields : List Field) (body : List ℕ) (m : Message)
     → list_all is_token_byte verb ≡ true → 0 < length verb → length verb ≤ 40
     → 0 < length target → length target ≤ 3072 → AllPass is_uri_byte target → IsUtf8 target
-    → AreSent fields → length fields ≤ 5 → body_length fields ≡ Some (length body) → m ≡ message_of verb target fields body
+    → AreSent fields → length fields ≤ 5 → body_length fields ≡ Some (length body)
+    → m ≡ message_of verb target fields body
     → SpellsRequest (request_lines verb target fields ++ body) m
-request_sent verb target fields body m token some brief some_target short uri text are few announced is =
+request_sent verb target fields body m token some brief some_target short uri text are few announced
+    is =
     let head = sent_request verb target fields in
     let same = read_back fields are in record {
       head = head;

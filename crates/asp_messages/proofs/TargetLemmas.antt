@@ -23,7 +23,8 @@ past_ascii b high = grind (arith, nat_tests)
 pub escaped_is : (b : ℕ) → should_percent_encode ESCAPED b ≡ not (is_plain_byte b)
 escaped_is b =
     ⊎_elim
-    (λ h. agree_below_at (should_percent_encode ESCAPED) (λ k. not (is_plain_byte k)) 128 b escaped_table (grind (arith, nat_tests)))
+    (λ h. agree_below_at (should_percent_encode ESCAPED) (λ k. not (is_plain_byte k)) 128 b
+    escaped_table (grind (arith, nat_tests)))
     (λ h. past_ascii b (grind (arith, nat_tests)))
     (cases_Bool (ltb b 128))
 
@@ -33,27 +34,32 @@ swapped false x y = refl
 
 encode_byte_is : (b : ℕ) → encode_byte ESCAPED b ≡ target_byte b
 encode_byte_is b =
-    ap (λ t. cond t (percent_encode_byte b) (b ∷ [])) (escaped_is b) ∙ swapped (is_plain_byte b) (percent_encode_byte b) (b ∷ [])
+    ap (λ t. cond t (percent_encode_byte b) (b ∷ [])) (escaped_is b)
+    ∙ swapped (is_plain_byte b) (percent_encode_byte b) (b ∷ [])
 
 -- the percent-encoding by that set is the target
 pub percent_encode_is : (key : List ℕ) → percent_encode ESCAPED key ≡ target_text key
 unfolding percent_encode
 percent_encode_is [] = refl
-percent_encode_is (b ∷ bs) = ap (λ t. t ++ percent_encode ESCAPED bs) (encode_byte_is b) ∙ ap (λ t. target_byte b ++ t) (percent_encode_is bs)
+percent_encode_is (b ∷ bs) = ap (λ t. t ++ percent_encode ESCAPED bs) (encode_byte_is b)
+    ∙ ap (λ t. target_byte b ++ t) (percent_encode_is bs)
 
 -- ---- the target as the grammar has it
 
 -- the target reads back
 pub target_text-decoded : (key : List ℕ) → All IsByte key → percent_decode (target_text key) ≡ key
-target_text-decoded key bytes = ap percent_decode (sym (percent_encode_is key)) ∙ round_trip ESCAPED key refl bytes
+target_text-decoded key bytes = ap percent_decode (sym (percent_encode_is key))
+    ∙ round_trip ESCAPED key refl bytes
 
-pub target_text-short : (key : List ℕ) → All IsByte key → (length key ≤ length (target_text key)) × (length (target_text key) ≤ 3 * length key)
+pub target_text-short : (key : List ℕ) → All IsByte key
+    → (length key ≤ length (target_text key)) × (length (target_text key) ≤ 3 * length key)
 target_text-short key bytes =
     let lengths = length-percent_decode (target_text key) in
     let same = ap length (target_text-decoded key bytes) in
     (omega (arith, lengths.0, same), omega (arith, lengths.1, same))
 
-kept_table : agree_below (λ b. should_percent_encode ESCAPED b || is_uri_byte b) (λ b. true) 128 ≡ true
+kept_table : agree_below (λ b. should_percent_encode ESCAPED b || is_uri_byte b) (λ b. true) 128
+    ≡ true
 unfolding should_percent_encode
 kept_table = refl
 
@@ -65,15 +71,18 @@ kept_is_uri : (b : ℕ) → should_percent_encode ESCAPED b ≡ false → IsTrue
 kept_is_uri b kept =
     let small : b < 128 = ascii_from_kept ESCAPED b kept in
     or_right (should_percent_encode ESCAPED b) (is_uri_byte b)
-    (agree_below_at (λ k. should_percent_encode ESCAPED k || is_uri_byte k) (λ k. true) 128 b kept_table small) kept
+    (agree_below_at (λ k. should_percent_encode ESCAPED k || is_uri_byte k) (λ k. true) 128 b
+    kept_table small) kept
 
 escape_is_uri : (b : ℕ) → IsEscapeByte b → IsTrue (is_uri_byte b)
 escape_is_uri b h = grind (arith, nat_tests)
 
 pub target_text-uri : (key : List ℕ) → AllPass is_uri_byte (target_text key)
 target_text-uri key =
-    subst (AllPass is_uri_byte) (percent_encode_is key) (All-percent_encode (λ b. IsTrue (is_uri_byte b)) ESCAPED key kept_is_uri escape_is_uri)
+    subst (AllPass is_uri_byte) (percent_encode_is key)
+    (All-percent_encode (λ b. IsTrue (is_uri_byte b)) ESCAPED key kept_is_uri escape_is_uri)
 
 pub target_text-utf8 : (key : List ℕ) → IsUtf8 (target_text key)
 target_text-utf8 key =
-    subst IsUtf8 (percent_encode_is key) (IsUtf8-from_ascii (percent_encode ESCAPED key) (IsAscii-percent_encode ESCAPED key))
+    subst IsUtf8 (percent_encode_is key) (IsUtf8-from_ascii (percent_encode ESCAPED key)
+    (IsAscii-percent_encode ESCAPED key))

@@ -1,4 +1,5 @@
--- The fields of a head, as names and values. A value has no space or tab at either end (RFC 7230, section 3.2).
+-- The fields of a head, as names and values. A value has no space or tab at either end (RFC 7230,
+-- section 3.2).
 use Rattle.std.specs.Prelude.{ℕ, ◌-◌, ◌^◌, List, [], ◌∷◌, map, codes, Option, Some, None, nat_le, ◌==◌, if◌then◌else◌}
 use Rattle.httparse.specs.Grammar.{RequestHead, ResponseHead}
 use Rattle.httparse.specs.Spans.{name_and_value}
@@ -45,13 +46,15 @@ abbrev pub at_least : ℕ → Option ℕ → Option ℕ
 at_least least None = None
 at_least least (Some n) = if nat_le least n then Some n else None
 
--- the number of a field that may be absent: the default then, and none where it stands twice, is no number or is out of range
+-- the number of a field that may be absent: the default then, and none where it stands twice, is no
+-- number or is out of range
 abbrev pub number_or : ℕ → ℕ → ℕ → Standing → Option ℕ
 number_or default least most absent = Some default
 number_or default least most (one value) = at_least least (number_of value most)
 number_or default least most twice = None
 
--- the number of a field that is needed: none where it is absent, stands twice, is no number or is too large
+-- the number of a field that is needed: none where it is absent, stands twice, is no number or is
+-- too large
 abbrev pub number_needed : ℕ → Standing → Option ℕ
 number_needed most absent = None
 number_needed most (one value) = number_of value most
@@ -69,7 +72,8 @@ most_minutes = 525600
 abbrev pub most_cookie : ℕ
 most_cookie = 2 ^ 63 - 1
 
--- how long the body is that a head announces: 0 bytes where it says nothing, and none where what it says is no length (RFC 7230, section 3.3.2)
+-- how long the body is that a head announces: 0 bytes where it says nothing, and none where what it
+-- says is no length (RFC 7230, section 3.3.2)
 abbrev pub body_length : List Field → Option ℕ
 body_length fields = number_or 0 0 most_body (once fields (codes "Content-Length"))
 

@@ -1,4 +1,5 @@
--- The plain spelling of asks and replies, which journals and scripts use: words with one space between two, numbers in
+-- The plain spelling of asks and replies, which journals and scripts use: words with one space
+-- between two, numbers in
 -- decimal without leading zeros. Cookie 0 stands for none.
 use Rattle.std.specs.Prelude.{ℕ, List, ◌++◌, codes, decimal, Option, Some, None, Bool, if◌then◌else◌}
 use Rattle.hex.specs.Hex.{encode_lower}
@@ -35,14 +36,16 @@ ask_spelling Read = codes "read"
 ask_spelling Acquire = codes "acquire"
 ask_spelling (Release cookie) = codes "release" then decimal cookie
 ask_spelling (Write body minutes fresh cookie) =
-    codes "write" then cookie_word cookie then decimal minutes then flag_word fresh then bytes_word body
+    codes "write" then cookie_word cookie then decimal minutes then flag_word fresh then
+    bytes_word body
 ask_spelling (Remove cookie) = codes "remove" then cookie_word cookie
 ask_spelling Reset = codes "reset"
 
 -- the spelling of a reply
 unfoldable pub reply_spelling : Reply → List ℕ
 reply_spelling (Found body minutes cookie first) =
-    codes "found" then cookie_word cookie then decimal minutes then flag_word first then bytes_word body
+    codes "found" then cookie_word cookie then decimal minutes then flag_word first then
+    bytes_word body
 reply_spelling Done = codes "done"
 reply_spelling (Locked cookie age) = codes "locked" then decimal cookie then decimal age
 reply_spelling Missing = codes "missing"

@@ -1,4 +1,5 @@
--- The bytes that spell a reply ([MS-ASP], section 2.2; the ranges and the statuses 500, 503, 507 and 508 are this
+-- The bytes that spell a reply ([MS-ASP], section 2.2; the ranges and the statuses 500, 503, 507
+-- and 508 are this
 -- project's own).
 use Rattle.std.specs.Prelude.{◌≡◌, ℕ, ◌^◌, List, [], ◌∷◌, codes, Option, Some, None, ◌==◌, if◌then◌else◌}
 use Rattle.httparse.specs.Grammar.{ResponseHead, status_code}
@@ -39,7 +40,8 @@ age_field fields = number_needed most_age (once fields (codes "LockAge"))
 
 -- 200 with `Timeout`: the content, where `Timeout`, `LockCookie` and `ActionFlags` are in range
 abbrev pub found_reply : List ℕ → Option ℕ → Option ℕ → Option ℕ → Option Reply
-found_reply body (Some minutes) (Some cookie) (Some flag) = Some (Found body minutes (named cookie) (flag == 1))
+found_reply body (Some minutes) (Some cookie) (Some flag) =
+    Some (Found body minutes (named cookie) (flag == 1))
 found_reply body minutes cookie flag = None
 
 -- 200 without `Timeout`: done, where there is no body
@@ -72,7 +74,9 @@ plain_reply status =
 unfoldable pub reply_of : ℕ → List Field → List ℕ → Option Reply
 reply_of status fields body =
     if status == 200
-    then ok_reply (once fields (codes "Timeout")) body (found_reply body (minutes_field fields) (lock_cookie_field fields) (action_flags_field fields))
+    then ok_reply (once fields (codes "Timeout")) body
+    (found_reply body (minutes_field fields) (lock_cookie_field fields)
+    (action_flags_field fields))
     else (if status == 423
     then locked_reply (holder_field fields) (age_field fields)
     else plain_reply status)

@@ -40,7 +40,8 @@ status_line PlacesOut = line (codes "HTTP/1.1 508 Places Out")
 abbrev pub reply_fields : Reply → List ℕ
 reply_fields (Found body minutes cookie first) =
     number_line (codes "Timeout") minutes ++ cookie_line cookie ++ first_line first
-reply_fields (Locked cookie age) = number_line (codes "LockCookie") cookie ++ number_line (codes "LockAge") age
+reply_fields (Locked cookie age) = number_line (codes "LockCookie") cookie
+    ++ number_line (codes "LockAge") age
 reply_fields reply = []
 
 -- the content of a reply

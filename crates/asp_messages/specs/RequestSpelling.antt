@@ -1,4 +1,5 @@
--- The bytes that spell a request ([MS-ASP], section 2.2; the ranges and the defaults are this project's own).
+-- The bytes that spell a request ([MS-ASP], section 2.2; the ranges and the defaults are this
+-- project's own).
 use Rattle.std.specs.Prelude.{◌≡◌, ℕ, List, length, codes, Option, Some, None, Bool, ◌&&◌, ◌==◌, nat_lt, nat_le, if◌then◌else◌}
 use Rattle.std.specs.Str.{bytes_eq}
 use Rattle.httparse.specs.Grammar.{RequestHead}
@@ -26,7 +27,8 @@ exclusive_ask word cookie =
     then Some Acquire
     else (if is_same_name word (codes "release") then release_ask cookie else None)
 
--- `GET`: a plain read where `Exclusive` is absent, else what its word says; the cookie is that of `LockCookie`
+-- `GET`: a plain read where `Exclusive` is absent, else what its word says; the cookie is that of
+-- `LockCookie`
 abbrev pub get_ask : Standing → Option ℕ → Option Ask
 get_ask absent cookie = Some Read
 get_ask (one word) cookie = exclusive_ask word cookie
@@ -34,7 +36,8 @@ get_ask twice cookie = None
 
 -- `PUT`: a write of the body, where `Timeout`, `ExtraFlags` and `LockCookie` are in range
 abbrev pub put_ask : List ℕ → Option ℕ → Option ℕ → Option ℕ → Option Ask
-put_ask body (Some minutes) (Some flag) (Some cookie) = Some (Write body minutes (flag == 1) (named cookie))
+put_ask body (Some minutes) (Some flag) (Some cookie) =
+    Some (Write body minutes (flag == 1) (named cookie))
 put_ask body minutes flag cookie = None
 
 -- `DELETE`: a removal, where `LockCookie` is in range
@@ -46,7 +49,8 @@ delete_ask (Some cookie) = Some (Remove (named cookie))
 unfoldable pub ask_of : List ℕ → List Field → List ℕ → Option Ask
 ask_of verb fields body =
     if bytes_eq verb (codes "GET")
-    then get_ask (once fields (codes "Exclusive")) (number_needed most_cookie (once fields (codes "LockCookie")))
+    then get_ask (once fields (codes "Exclusive"))
+    (number_needed most_cookie (once fields (codes "LockCookie")))
     else (if bytes_eq verb (codes "PUT")
     then put_ask body (timeout_field fields) (extra_flags_field fields) (lock_cookie_field fields)
     else (if bytes_eq verb (codes "DELETE")

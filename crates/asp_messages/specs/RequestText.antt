@@ -41,15 +41,18 @@ fresh_line fresh = if fresh then line (codes "ExtraFlags: 1") else []
 abbrev pub ask_fields : Ask → List ℕ
 ask_fields Read = []
 ask_fields Acquire = line (codes "Exclusive: acquire")
-ask_fields (Release cookie) = line (codes "Exclusive: release") ++ number_line (codes "LockCookie") cookie
+ask_fields (Release cookie) = line (codes "Exclusive: release")
+    ++ number_line (codes "LockCookie") cookie
 ask_fields (Write body minutes fresh cookie) =
-    number_line (codes "Timeout") minutes ++ fresh_line fresh ++ cookie_line cookie ++ number_line (codes "Content-Length") (length body)
+    number_line (codes "Timeout") minutes ++ fresh_line fresh ++ cookie_line cookie
+    ++ number_line (codes "Content-Length") (length body)
 ask_fields (Remove cookie) = cookie_line cookie
 ask_fields Reset = []
 
 -- the request line and the host
 abbrev pub start_lines : List ℕ → List ℕ → List ℕ
-start_lines verb target = line (verb ++ codes " " ++ target ++ codes " HTTP/1.1") ++ line (codes "Host: state")
+start_lines verb target = line (verb ++ codes " " ++ target ++ codes " HTTP/1.1")
+    ++ line (codes "Host: state")
 
 -- the content of an ask
 abbrev pub content_of : Ask → List ℕ
@@ -59,4 +62,5 @@ content_of ask = []
 -- the canonical text
 unfoldable pub request_text : Request → List ℕ
 request_text request =
-    start_lines (verb_text request.ask) (target_text request.key) ++ ask_fields request.ask ++ line [] ++ content_of request.ask
+    start_lines (verb_text request.ask) (target_text request.key) ++ ask_fields request.ask
+    ++ line [] ++ content_of request.ask

@@ -9,10 +9,13 @@ ghost use Rattle.asp_messages.specs.Stream.{IsStream, IsWaiting};
 
 /// A byte list is one stream of requests: it has one list of messages and one rest.
 pub fn one_stream()
-    ensures { (bytes : List ℕ) (ms ns : List Message) (rest other : List ℕ) → IsStream SpellsRequest bytes ms rest → IsStream SpellsRequest bytes ns other → (ms ≡ ns) × (rest ≡ other) }
+    ensures { (bytes : List ℕ) (ms ns : List Message) (rest other : List ℕ)
+        → IsStream SpellsRequest bytes ms rest → IsStream SpellsRequest bytes ns other
+        → (ms ≡ ns) × (rest ≡ other) }
 {}
 
 /// What waits for more bytes is shorter than a head and a body together may be.
 pub fn waiting_is_short()
-    ensures { (bytes : List ℕ) → IsWaiting IsRequestHead request_fields bytes → length bytes < most_head + most_body }
+    ensures { (bytes : List ℕ) → IsWaiting IsRequestHead request_fields bytes
+        → length bytes < most_head + most_body }
 {}

@@ -1,4 +1,5 @@
-//! Requests and replies of the state server protocol: the values, the texts that spell them, and the
+//! Requests and replies of the state server protocol: the values, the texts that spell them, and
+//! the
 //! stream that a connection's bytes are.
 #![tactic(auto)]
 
@@ -14,6 +15,7 @@ mod request_text;
 mod tests;
 mod wire;
 
+pub use append::{or_undo, push, push_hex, push_number, then_number};
 pub use laws::{one_stream, waiting_is_short};
 pub use plain::{spell_ask, spell_reply};
 pub use ranges::{

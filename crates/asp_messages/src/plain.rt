@@ -4,32 +4,9 @@ ghost use Rattle.hex.specs.Hex.{encode_lower};
 ghost use Rattle.asp_messages.specs.Appending.{Extends};
 ghost use Rattle.asp_messages.specs.PlainSpelling.{◌then◌, cookie_word, flag_word, bytes_word, ask_spelling, reply_spelling};
 
-use crate::append::{or_undo, push, push_number};
+use crate::append::{or_undo, push, push_hex, then_number};
 use crate::{Ask, Reply};
 use asp_base::{Bytes, NoMemory};
-
-const DIGITS: [u8; 16] = *b"0123456789abcdef";
-
-fn push_hex(out: &mut Vec<u8>, bytes: &[u8]) -> Result<(), NoMemory>
-    ensures ok { OnOk result (out.new.items ≡ out.old.items ++ encode_lower bytes.now) }
-    ensures err { OnErr result (Extends out.old.items out.new.items) }
-{
-    for byte in bytes {
-        push(
-            out,
-            &[DIGITS[(byte / 16) as usize], DIGITS[(byte % 16) as usize]],
-        )?;
-    }
-    Ok(())
-}
-
-fn then_number(out: &mut Vec<u8>, n: u64) -> Result<(), NoMemory>
-    ensures ok { OnOk result (out.new.items ≡ out.old.items then decimal n) }
-    ensures err { OnErr result (Extends out.old.items out.new.items) }
-{
-    push(out, b" ")?;
-    push_number(out, n)
-}
 
 fn then_cookie(out: &mut Vec<u8>, cookie: Option<u64>) -> Result<(), NoMemory>
     ensures ok { OnOk result (out.new.items ≡ out.old.items then cookie_word cookie) }

@@ -1,5 +1,8 @@
 //! What a web server asks of the state server.
-use asp_base::Bytes;
+ghost use Rattle.std.specs.Prelude.{◌≡◌, IfOk};
+
+use asp_base::{Bytes, NoMemory};
+use std::alloc::Global;
 
 /// A request for one session's item ([MS-ASP], section 2.2).
 #[derive(Debug, PartialEq, Eq, Drop)]
@@ -8,6 +11,18 @@ pub struct Request {
     pub key: Bytes,
     /// What is asked.
     pub ask: Ask,
+}
+
+impl Request {
+    /// The same request once more, its key and its content too. The only error is want of memory.
+    pub fn copy(&self, alloc: Global) -> Result<Request, NoMemory>
+        ensures { IfOk result (λ copy. copy ≡ self.now) }
+    {
+        Ok(Request {
+            key: Bytes::copy(alloc, self.key.as_slice())?,
+            ask: self.ask.copy(alloc)?,
+        })
+    }
 }
 
 /// What a request asks.
@@ -40,6 +55,32 @@ pub enum Ask {
     },
     /// A new timeout for the item, and nothing else.
     Reset,
+}
+
+impl Ask {
+    /// The same ask once more, its content too. The only error is want of memory.
+    pub fn copy(&self, alloc: Global) -> Result<Ask, NoMemory>
+        ensures { IfOk result (λ copy. copy ≡ self.now) }
+    {
+        Ok(match self {
+            Ask::Read => Ask::Read,
+            Ask::Acquire => Ask::Acquire,
+            Ask::Release { cookie } => Ask::Release { cookie: *cookie },
+            Ask::Write {
+                body,
+                minutes,
+                fresh,
+                cookie,
+            } => Ask::Write {
+                body: Bytes::copy(alloc, body.as_slice())?,
+                minutes: *minutes,
+                fresh: *fresh,
+                cookie: *cookie,
+            },
+            Ask::Remove { cookie } => Ask::Remove { cookie: *cookie },
+            Ask::Reset => Ask::Reset,
+        })
+    }
 }
 
 /// A message of a request stream.

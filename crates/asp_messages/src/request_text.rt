@@ -59,7 +59,8 @@ fn push_target(out: &mut Vec<u8>, key: &Bytes) -> Result<(), NoMemory>
 }
 
 fn push_start(out: &mut Vec<u8>, request: &Request) -> Result<(), NoMemory>
-    ensures ok { OnOk result (out.new.items ≡ out.old.items ++ start_lines (verb_text request.now.ask) (target_text request.now.key)) }
+    ensures ok { OnOk result (out.new.items ≡ out.old.items
+        ++ start_lines (verb_text request.now.ask) (target_text request.now.key)) }
     ensures err { OnErr result (Extends out.old.items out.new.items) }
 {
     push(out, verb(&request.ask))?;

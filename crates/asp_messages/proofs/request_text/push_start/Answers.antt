@@ -5,10 +5,18 @@ use Rattle.asp_messages.specs.RequestText.{start_lines}
 use Rattle.asp_messages.proofs.request_text.push_start.Goals as goal
 
 start_is : (old verb target : List ℕ)
-    → old ++ verb ++ codes " " ++ target ++ line (codes " HTTP/1.1") ++ line (codes "Host: state") ≡ old ++ start_lines verb target
+    → old ++ verb ++ codes " " ++ target ++ line (codes " HTTP/1.1") ++ line (codes "Host: state")
+    ≡ old ++ start_lines verb target
 start_is old verb target = simp append_assoc
 
 pub returns-clause-ok : goal.returns-clause-ok
 returns-clause-ok c =
-    rw (← start_is _ _ _, ← c.verb.ensures, ← c.in_ok-push.ensures.ok, ← c.in_ok-push-2.ensures.ok, ← c.in_ok-push_target.ensures.ok, ← c.in_ok-push_line.ensures.ok)
+    rw (
+      ← start_is _ _ _,
+      ← c.verb.ensures,
+      ← c.in_ok-push.ensures.ok,
+      ← c.in_ok-push-2.ensures.ok,
+      ← c.in_ok-push_target.ensures.ok,
+      ← c.in_ok-push_line.ensures.ok,
+    )
     c.push_line-2.ensures.ok

@@ -9,4 +9,5 @@ returns-clause-spelled c r fits = reply_spelled r fits
 
 pub returns-clause-first : goal.returns-clause-first
 returns-clause-first c r more front back a fits is spells =
-    SpellsReply-unique (reply_text r ++ more) front back (reply_text r) more a _ is spells refl (reply_spelled r fits)
+    SpellsReply-unique (reply_text r ++ more) front back (reply_text r) more a _ is spells refl
+    (reply_spelled r fits)

@@ -9,4 +9,5 @@ returns-clause-spelled c r fits bytes = request_spelled r fits bytes
 
 pub returns-clause-first : goal.returns-clause-first
 returns-clause-first c r more front back m fits bytes is spells =
-    SpellsRequest-unique (request_text r ++ more) front back (request_text r) more m _ is spells refl (request_spelled r fits bytes)
+    SpellsRequest-unique (request_text r ++ more) front back (request_text r) more m _ is spells
+    refl (request_spelled r fits bytes)
