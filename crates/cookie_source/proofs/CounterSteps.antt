@@ -22,7 +22,8 @@ total-append : {A : Type 0} (g : A → ℕ) (l m : List A) → total g (l ++ m) 
 total-append g [] m = omega arith
 total-append g (x ∷ xs) m = omega (arith, total-append g xs m)
 
-total-set : {A : Type 0} (g : A → ℕ) (l : List A) (j : ℕ) (v w : A) → get_elem? l j ≡ some v → total g (set l j w) + g v ≡ total g l + g w
+total-set : {A : Type 0} (g : A → ℕ) (l : List A) (j : ℕ) (v w : A) → get_elem? l j ≡ some v
+    → total g (set l j w) + g v ≡ total g l + g w
 total-set g [] j v w e = absurd (some-ne-none v (sym e))
 total-set g (x ∷ xs) zero v w e = omega (arith, ap g (some-injective x v e))
 total-set g (x ∷ xs) (suc j) v w e = omega (arith, total-set g xs j v w e)
@@ -34,14 +35,22 @@ all_below xs m n le all k d h = let t : get_or xs k d < m = all k d h in omega a
 -- what the rule says of a drawer stays true as the counter rises
 drawer_at_more : (first m n : ℕ) (v : DrawerView) → m ≤ n → IsDrawer first m v → IsDrawer first n v
 drawer_at_more first m n v le f =
-    let seen = f.saw_no_more in record { first_cookie = f.first_cookie; saw_no_more = omega arith; drew_below = all_below v.drawn m n le f.drew_below }
+    let seen = f.saw_no_more in record {
+      first_cookie = f.first_cookie;
+      saw_no_more =
+          omega arith;
+      drew_below = all_below v.drawn m n le f.drew_below;
+    }
 
 -- the rule holds of each drawer where the one at by has become w
-each_set : (first m n by : ℕ) (vs : List DrawerView) (w : DrawerView) → m ≤ n → ((j : ℕ) (v : DrawerView) → get_elem? vs j ≡ some v → IsDrawer first m v)
-    → IsDrawer first n w → (j : ℕ) (v : DrawerView) → get_elem? (set vs by w) j ≡ some v → IsDrawer first n v
+each_set : (first m n by : ℕ) (vs : List DrawerView) (w : DrawerView) → m ≤ n
+    → ((j : ℕ) (v : DrawerView) → get_elem? vs j ≡ some v → IsDrawer first m v)
+    → IsDrawer first n w → (j : ℕ) (v : DrawerView) → get_elem? (set vs by w) j ≡ some v
+    → IsDrawer first n v
 each_set first m n by vs w le each mine j v e =
     ⊎_elim (λ (t : (j ≡ by) × (w ≡ v)). subst (IsDrawer first n) t.1 mine)
-    (λ (t : (j ≢ by) × (get_elem? vs j ≡ some v)). drawer_at_more first m n v le (each j v t.1)) (at_set vs by j w v e)
+    (λ (t : (j ≢ by) × (get_elem? vs j ≡ some v)). drawer_at_more first m n v le (each j v t.1))
+    (at_set vs by j w v e)
 
 -- a new counter keeps the rule
 pub begins : (first : ℕ) → IsCounted first (opening (first ∷ []) [] (new_drawer first))
@@ -52,8 +61,15 @@ begins first = record {
   each = each;
 }
   where
-    each : (by : ℕ) (v : DrawerView) → get_elem? (new_drawer first ∷ []) by ≡ some v → IsDrawer first first v
-    each zero v e = subst (IsDrawer first first) (some-injective _ _ e) record { first_cookie = refl; saw_no_more = omega arith; drew_below = All-nil (λ n. n < first) }
+    each : (by : ℕ) (v : DrawerView) → get_elem? (new_drawer first ∷ []) by ≡ some v
+        → IsDrawer first first v
+    each zero v e = subst (IsDrawer first first) (some-injective _ _ e)
+        record {
+          first_cookie = refl;
+          saw_no_more = omega arith;
+          drew_below =
+              All-nil (λ n. n < first);
+        }
     each (suc by) v e = absurd (some-ne-none v (sym e))
 
 -- a split makes a drawer that drew nothing
@@ -63,29 +79,58 @@ splits first by v s h me =
     let same = set_again s.views by v me in record {
       one_word = h.one_word;
       from_first = h.from_first;
-      drawn_once = λ f. omega (arith, h.drawn_once f, total-append (λ (u : DrawerView). total f u.drawn) (set s.views by v) (nothing_drawn v ∷ []), ap (total (λ (u : DrawerView). total f u.drawn)) same);
+      drawn_once = λ f. omega (
+        arith,
+        h.drawn_once f,
+        total-append
+            (λ (u : DrawerView). total f u.drawn) (set s.views by v) (nothing_drawn v ∷ []),
+        ap
+            (total (λ (u : DrawerView). total f u.drawn)) same,
+      );
       each = λ j u e. let f = h.each by v me in
-          ⊎_elim (λ (t : get_elem? (set s.views by v) j ≡ some u). h.each j u (subst (λ (l : List DrawerView). get_elem? l j ≡ some u) same t))
-          (λ (t : nothing_drawn v ≡ u). subst (IsDrawer first counter) t record { first_cookie = f.first_cookie; saw_no_more = f.saw_no_more; drew_below = All-nil (λ n. n < counter) })
+          ⊎_elim (λ (t : get_elem? (set s.views by v) j ≡ some u). h.each j u
+          (subst (λ (l : List DrawerView). get_elem? l j ≡ some u) same t))
+          (λ (t : nothing_drawn v ≡ u). subst (IsDrawer first counter) t
+          record {
+            first_cookie = f.first_cookie;
+            saw_no_more = f.saw_no_more;
+            drew_below =
+                All-nil (λ n. n < counter);
+          })
           (at_snoc (set s.views by v) (nothing_drawn v) u j e);
     }
 
 -- the counter is seen, and stays
-sees : (first : ℕ) (s : CounterState) (h : IsCounted first s) (by : ℕ) (v : DrawerView) → get_elem? s.views by ≡ some v
-    → IsCounted first (with_words (set s.words 0 (slice_index s.words 0)) s (set s.views by (drawer_view v.first v.drawn (slice_index s.words 0))))
+sees : (first : ℕ) (s : CounterState) (h : IsCounted first s) (by : ℕ) (v : DrawerView)
+    → get_elem? s.views by ≡ some v
+    → IsCounted first (with_words (set s.words 0 (slice_index s.words 0)) s
+    (set s.views by (drawer_view v.first v.drawn (slice_index s.words 0))))
 sees first s h by v me =
     let counter : ℕ = slice_index s.words 0 in
     let w = drawer_view v.first v.drawn counter in
     let f = h.each by v me in
-    subst (λ (words : List ℕ). IsCounted first (with_words words s (set s.views by w))) (sym (set-get_or s.words 0 0)) record {
+    subst (λ (words : List ℕ). IsCounted first (with_words words s (set s.views by w)))
+    (sym (set-get_or s.words 0 0)) record {
       one_word = h.one_word;
       from_first = h.from_first;
-      drawn_once = λ g. omega (arith, h.drawn_once g, total-set (λ (u : DrawerView). total g u.drawn) s.views by v w me);
-      each = each_set first counter counter by s.views w (omega arith) h.each record { first_cookie = f.first_cookie; saw_no_more = omega arith; drew_below = f.drew_below };
+      drawn_once = λ g. omega (
+        arith,
+        h.drawn_once g,
+        total-set
+            (λ (u : DrawerView). total g u.drawn) s.views by v w me,
+      );
+      each = each_set first counter counter by s.views w (omega arith) h.each
+          record {
+            first_cookie = f.first_cookie;
+            saw_no_more = omega arith;
+            drew_below =
+                f.drew_below;
+          };
     }
 
 -- a load keeps the rule
-pub looks : (first slots by : ℕ) (m : DrawerSeat) → Allows (IsCounted first) slots by m 0 (λ n. n) (Looks (step slots 0 0 0 none) m)
+pub looks : (first slots by : ℕ) (m : DrawerSeat)
+    → Allows (IsCounted first) slots by m 0 (λ n. n) (Looks (step slots 0 0 0 none) m)
 looks first slots by m s h wide me _ =
     let counter : ℕ = slice_index s.words 0 in
     let f = h.each by m.0 me in
@@ -94,23 +139,34 @@ looks first slots by m s h wide me _ =
       keeps,
       tt,
       sees first s h by m.0 me,
-      record { never_falls = f.saw_no_more; from_first = subst (λ (k : ℕ). k ≤ counter) (sym f.first_cookie) from; after_look = refl },
+      record {
+        never_falls = f.saw_no_more;
+        from_first =
+            subst (λ (k : ℕ). k ≤ counter) (sym f.first_cookie) from;
+        after_look = refl;
+      },
     )
 
 -- a compare and exchange from a cookie to the next one keeps the rule
 pub draws : (first slots by : ℕ) (m : DrawerSeat) (old : ℕ) → old < 2 ^ 63
-    → Allows (IsCounted first) slots by m 0 (λ n. either (eqb n old) (old + 1) n) (Draws (step slots 0 old (old + 1) none) m)
+    → Allows (IsCounted first) slots by m 0 (λ n. either (eqb n old) (old + 1) n)
+    (Draws (step slots 0 old (old + 1) none) m)
 draws first slots by m old fits s h wide me _ =
     let counter : ℕ = slice_index s.words 0 in
     let f = h.each by m.0 me in
-    let low : m.0.first ≤ counter = subst (λ (k : ℕ). k ≤ counter) (sym f.first_cookie) h.from_first in
-    let Goal : ℕ → Type 0 = λ n. (w : DrawerView) × (a : Act (Unit {0})) × Rattle.atomic_table.specs.Table.Valid s.homes m.1 a × IsCounted first (stepped s 0 n by m.1 w a)
-    × Draws (step slots 0 old (old + 1) none) m counter (w, Rattle.atomic_table.specs.Table.carried_after m.1 a) in
+    let low : m.0.first ≤ counter = subst (λ (k : ℕ). k ≤ counter) (sym f.first_cookie)
+    h.from_first in
+    let Goal : ℕ → Type 0 = λ n. (w : DrawerView) × (a : Act (Unit {0}))
+    × Rattle.atomic_table.specs.Table.Valid s.homes m.1 a
+    × IsCounted first (stepped s 0 n by m.1 w a)
+    × Draws (step slots 0 old (old + 1) none) m counter
+    (w, Rattle.atomic_table.specs.Table.carried_after m.1 a) in
     exchanged counter old (old + 1) Goal
     (λ hit.
     let w = drawer_view m.0.first (m.0.drawn ++ counter ∷ []) counter in
     let long = h.one_word in
-    let now : get_or (set s.words 0 (old + 1)) 0 0 ≡ old + 1 = get_or-set_same s.words 0 (old + 1) 0 (omega arith) in
+    let now : get_or (set s.words 0 (old + 1)) 0 0 ≡ old + 1 =
+    get_or-set_same s.words 0 (old + 1) 0 (omega arith) in
     let more : old + 1 ≡ suc counter = omega arith in (
       w,
       keeps,
@@ -118,22 +174,47 @@ draws first slots by m old fits s h wide me _ =
       record {
         one_word = length-set s.words 0 (old + 1) ∙ long;
         from_first = let from = h.from_first in omega arith;
-        drawn_once = λ g. omega (arith, h.drawn_once g, total-set (λ (u : DrawerView). total g u.drawn) s.views by m.0 w me, total-append g m.0.drawn (counter ∷ []), ap (total_below g) (now ∙ more));
-        each = subst (λ (n : ℕ). (j : ℕ) (v : DrawerView) → get_elem? (set s.views by w) j ≡ some v → IsDrawer first n v) (sym now)
+        drawn_once = λ g. omega (
+          arith,
+          h.drawn_once g,
+          total-set
+              (λ (u : DrawerView). total g u.drawn) s.views by m.0 w me,
+          total-append g m.0.drawn
+              (counter ∷ []),
+          ap (total_below g) (now ∙ more),
+        );
+        each = subst (λ (n : ℕ). (j : ℕ) (v : DrawerView) → get_elem? (set s.views by w) j ≡ some v
+            → IsDrawer first n v) (sym now)
             (each_set first counter (old + 1) by s.views w (omega arith) h.each record {
               first_cookie = f.first_cookie;
               saw_no_more = omega arith;
-              drew_below = All-append (λ n. n < old + 1) m.0.drawn (counter ∷ []) (all_below m.0.drawn counter (old + 1) (omega arith) f.drew_below) (last counter (old + 1) (omega arith));
+              drew_below = All-append (λ n. n < old + 1) m.0.drawn (counter ∷ [])
+                  (all_below m.0.drawn counter (old + 1) (omega arith) f.drew_below)
+                  (last counter (old + 1) (omega arith));
             });
       },
-      record { never_falls = f.saw_no_more; from_first = low; rises = λ _. f.drew_below; drawn = λ _. refl; missed = λ miss. absurd (miss hit) },
+      record {
+        never_falls = f.saw_no_more;
+        from_first = low;
+        rises = λ _. f.drew_below;
+        drawn =
+            λ _. refl;
+        missed = λ miss. absurd (miss hit);
+      },
     ))
     (λ miss. (
       drawer_view m.0.first m.0.drawn counter,
       keeps,
       tt,
       sees first s h by m.0 me,
-      record { never_falls = f.saw_no_more; from_first = low; rises = λ hit. absurd (miss hit); drawn = λ hit. absurd (miss hit); missed = λ _. refl },
+      record {
+        never_falls = f.saw_no_more;
+        from_first = low;
+        rises =
+            λ hit. absurd (miss hit);
+        drawn = λ hit. absurd (miss hit);
+        missed = λ _. refl;
+      },
     ))
   where
     last : (c n : ℕ) → c < n → All (λ k. k < n) (c ∷ [])

@@ -1,4 +1,5 @@
--- The rule of a counter that threads share, whose only word is the next cookie, and what each kind of step tells.
+-- The rule of a counter that threads share, whose only word is the next cookie, and what each kind
+-- of step tells.
 use Rattle.std.specs.Prelude.{◌≡◌, ◌≢◌, ℕ, zero, suc, ◌+◌, ◌<◌, ◌≤◌, List, [], ◌∷◌, ◌++◌, length, slice_index, All}
 use mathlib.Core.Option.{some}
 use lib.ListN.{get_elem?}
@@ -32,28 +33,38 @@ pub record IsDrawer (first counter : ℕ) (v : DrawerView) : Type 0 where
   pub saw_no_more : v.seen ≤ counter
   pub drew_below : All (λ n. n < counter) v.drawn
 
--- Between any two steps each cookie from the first one on and below the counter was drawn once, by one drawer, and no other number was drawn:
--- however the numbers are weighed, those drawn weigh what those cookies weigh. Where each weighs 1, the counter is the first cookie plus the number of draws.
+-- Between any two steps each cookie from the first one on and below the counter was drawn once, by
+-- one drawer, and no other number was drawn:
+-- however the numbers are weighed, those drawn weigh what those cookies weigh. Where each weighs 1,
+-- the counter is the first cookie plus the number of draws.
 pub record IsCounted (first : ℕ) (s : State (Unit {0}) DrawerView) : Type 0 where
   pub one_word : length s.words ≡ 1
   pub from_first : first ≤ slice_index s.words 0
-  pub drawn_once : (weight : ℕ → ℕ) → total (λ v. total weight v.drawn) s.views + total_below weight first ≡ total_below weight (slice_index s.words 0)
-  pub each : (by : ℕ) (v : DrawerView) → get_elem? s.views by ≡ some v → IsDrawer first (slice_index s.words 0) v
+  pub drawn_once : (weight : ℕ → ℕ) → total (λ v. total weight v.drawn) s.views
+      + total_below weight first ≡ total_below weight (slice_index s.words 0)
+  pub each : (by : ℕ) (v : DrawerView) → get_elem? s.views by ≡ some v
+      → IsDrawer first (slice_index s.words 0) v
 
 -- what a drawer knows, and the slots that it holds
 abbrev pub DrawerSeat : Type 0
 DrawerSeat = Me (Unit {0}) DrawerView
 
 -- the counter was seen, and nothing drawn
-pub record Looks (st : Step (Unit {0})) (before : DrawerSeat) (word : ℕ) (after : DrawerSeat) : Type 0 where
+pub record Looks (st : Step (Unit {0})) (before : DrawerSeat) (word : ℕ) (after : DrawerSeat) : Type
+    0 where
   pub never_falls : before.0.seen ≤ word
   pub from_first : before.0.first ≤ word
   pub after_look : after ≡ (drawer_view before.0.first before.0.drawn word, before.1)
 
 -- the cookie at which the counter stood was drawn, where it is the one that was tried for
-pub record Draws (st : Step (Unit {0})) (before : DrawerSeat) (word : ℕ) (after : DrawerSeat) : Type 0 where
+pub record Draws (st : Step (Unit {0})) (before : DrawerSeat) (word : ℕ) (after : DrawerSeat) : Type
+    0 where
   pub never_falls : before.0.seen ≤ word
   pub from_first : before.0.first ≤ word
   pub rises : word ≡ st.first → All (λ k. k < word) before.0.drawn
-  pub drawn : word ≡ st.first → after ≡ (drawer_view before.0.first (before.0.drawn ++ word ∷ []) word, before.1)
+  pub drawn : word ≡ st.first → after ≡ (
+    drawer_view before.0.first (before.0.drawn ++ word ∷ [])
+        word,
+    before.1,
+  )
   pub missed : word ≢ st.first → after ≡ (drawer_view before.0.first before.0.drawn word, before.1)

@@ -1,4 +1,5 @@
-//! The cookies that name acquisitions: numbers drawn in order from a first one to a last one, by one thread or by many.
+//! The cookies that name acquisitions: numbers drawn in order from a first one to a last one, by
+//! one thread or by many.
 #![tactic(auto)]
 
 mod plain;

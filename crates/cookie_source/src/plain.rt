@@ -47,8 +47,10 @@ impl PlainCookies {
         ensures ends { IfNone result (self.new.next ≡ self.old.next) }
         ensures last { self.new.last ≡ self.old.last }
         // The j-th draw gives the j-th cookie, and one draw more is counted.
-        ensures nth { (first j : ℕ) → first ≤ self.old.last → self.old.next ≡ counter_after first self.old.last j
-            → (result ≡ nth_cookie first self.old.last j) × (self.new.next ≡ counter_after first self.old.last (j + 1)) }
+        ensures nth { (first j : ℕ) → first ≤ self.old.last
+            → self.old.next ≡ counter_after first self.old.last j
+            → (result ≡ nth_cookie first self.old.last j)
+            × (self.new.next ≡ counter_after first self.old.last (j + 1)) }
     {
         if self.next > self.last {
             return None;

@@ -6,7 +6,8 @@ use std::collections::LinkedList;
 
 /// What a drawer knows, for contracts alone: no value of it is made.
 ///
-/// It is the counter's first cookie, the cookies that this drawer drew, in order, and the counter's word that it last saw.
+/// It is the counter's first cookie, the cookies that this drawer drew, in order, and the counter's
+/// word that it last saw.
 pub struct DrawerView {
     pub first: u64,
     pub drawn: LinkedList<u64>,

@@ -68,7 +68,8 @@ impl CookieSource {
         mut seat: Seat<(), DrawerView>,
         count: u64,
     ) -> Result<Vec<Drawer>, NoMemory>
-        requires seat { (seat.table_id ≡ self.now.table.shared.table_id) × (seat.me ≡ (new_drawer (first_of self.now), [])) }
+        requires seat { (seat.table_id ≡ self.now.table.shared.table_id)
+            × (seat.me ≡ (new_drawer (first_of self.now), [])) }
         requires count { 1 ≤ count }
         ensures count { IfOk result (λ v. length v.items ≡ count) }
         ensures new { IfOk result (λ v. All (IsNewDrawer self.now) v.items) }
@@ -82,17 +83,21 @@ impl CookieSource {
     }
 
     fn make_drawer(&self, seat: &mut Seat<(), DrawerView>) -> Drawer
-        requires { (seat.old.table_id ≡ self.now.table.shared.table_id) × (seat.old.me ≡ (new_drawer (first_of self.now), [])) }
-        ensures seat { (seat.new.table_id ≡ self.now.table.shared.table_id) × (seat.new.me ≡ (new_drawer (first_of self.now), [])) }
+        requires { (seat.old.table_id ≡ self.now.table.shared.table_id)
+            × (seat.old.me ≡ (new_drawer (first_of self.now), [])) }
+        ensures seat { (seat.new.table_id ≡ self.now.table.shared.table_id)
+            × (seat.new.me ≡ (new_drawer (first_of self.now), [])) }
         ensures drawer { IsNewDrawer self.now result }
     {
         let seat = self.table.shared.split_seat::<MakeDrawer>(seat);
         Drawer { seat }
     }
 
-    /// The counter's cookie, above each that this drawer drew, or `None` where the counter stood past the last one.
+    /// The counter's cookie, above each that this drawer drew, or `None` where the counter stood
+    /// past the last one.
     ///
-    /// It waits for nobody: where another drawer was faster it tries the counter's new cookie, which is greater, so it returns after at most
+    /// It waits for nobody: where another drawer was faster it tries the counter's new cookie,
+    /// which is greater, so it returns after at most
     /// one attempt for each cookie from the first to the last.
     pub fn draw<R>(&self, _rt: &R, drawer: &mut Drawer) -> Option<u64>
         requires home { drawer_home drawer.old ≡ source_id self.now }

@@ -17,16 +17,19 @@ use Rattle.shard_core.specs.Sweeping.{swept_entry, swept_deed}
 use Rattle.desk.specs.Draws.{Draws, draw_of, draws, deed_draws, draws_in}
 use Rattle.desk.specs.Standing.{DeskStandsFor}
 
-pub draws_in-push : (es : List Entry) (e : Entry) → draws_in (es ++ e ∷ []) ≡ draws_in es + deed_draws e.deed
+pub draws_in-push : (es : List Entry) (e : Entry)
+    → draws_in (es ++ e ∷ []) ≡ draws_in es + deed_draws e.deed
 draws_in-push [] e = omega arith
 draws_in-push (f ∷ fs) e = let rest = draws_in-push fs e in omega (arith, rest)
 
 -- what is below a bound is below a greater one
-below_more : (es : List Entry) (n m : ℕ) → n ≤ m → AllByRecursion (λ e. e.drawn < n) es → AllByRecursion (λ e. e.drawn < m) es
+below_more : (es : List Entry) (n m : ℕ) → n ≤ m → AllByRecursion (λ e. e.drawn < n) es
+    → AllByRecursion (λ e. e.drawn < m) es
 below_more [] n m le all = tt
 below_more (e ∷ es) n m le all = (omega (arith, all.0), below_more es n m le all.1)
 
-hold_more : (hold : Option Hold) (n m : ℕ) → n ≤ m → IfSome hold (λ h. h.cookie < n) → IfSome hold (λ h. h.cookie < m)
+hold_more : (hold : Option Hold) (n m : ℕ) → n ≤ m → IfSome hold (λ h. h.cookie < n)
+    → IfSome hold (λ h. h.cookie < m)
 hold_more None n m le below = tt
 hold_more (Some h) n m le below = omega (arith, below)
 
@@ -35,38 +38,53 @@ held_more None n m le below = tt
 held_more (Some item) n m le below = hold_more item.holder n m le below
 
 -- a drawn cookie that is none of the cookies before the next is fresh
-fresh_draw : (opening : List ℕ → Option Item) (es : List Entry) (next drawn : ℕ) → (0 < drawn → next ≤ drawn) → AllByRecursion (λ e. e.drawn < next) es
+fresh_draw : (opening : List ℕ → Option Item) (es : List Entry) (next drawn : ℕ)
+    → (0 < drawn → next ≤ drawn) → AllByRecursion (λ e. e.drawn < next) es
     → ((key : List ℕ) → IsHeldBelow next (opening key)) → IsFreshDraw opening es drawn
 fresh_draw opening es next zero above all held = inl refl
 fresh_draw opening es next (suc n) above all held =
     let le = above (omega arith) in
-    inr (below_more es next (suc n) le all, λ key. held_more (opening key) next (suc n) le (held key))
+    inr (
+      below_more es next (suc n) le all,
+      λ key. held_more (opening key) next (suc n) le
+          (held key),
+    )
 
-module _ (CanCount : ℕ → Type 0) (first : ℕ) (opening : List ℕ → Option Item) (count : ℕ) (list : List Entry)
+module _ (CanCount : ℕ → Type 0) (first : ℕ) (opening : List ℕ → Option Item) (count : ℕ)
+    (list : List Entry)
     (told told' : Option (List ℕ → Option Item)) (now now' : ℕ) (cookies : Counter)
     (stand : DeskStandsFor CanCount first opening count list told now cookies) (can : CanCount now')
   where
     -- a request was answered, and drew its cookie by counting
-    pub goes_on-asked : (cookies' : Counter) (caller t drawn : ℕ) (r : Request) (reply : Reply) → Draws cookies cookies' r.ask drawn
-        → (IsFreshDraw opening list drawn → StandsFor opening count list told now → StandsFor opening count (list ++ asked_entry caller t r drawn reply now' ∷ []) told' now')
+    pub goes_on-asked : (cookies' : Counter) (caller t drawn : ℕ) (r : Request) (reply : Reply)
+        → Draws cookies cookies' r.ask drawn
+        → (IsFreshDraw opening list drawn → StandsFor opening count list told now
+        → StandsFor opening count (list ++ asked_entry caller t r drawn reply now' ∷ []) told'
+        now')
         → (drawn ≡ draw_of first cookies.last (draws_in list) r.ask)
-        × DeskStandsFor CanCount first opening count (list ++ asked_entry caller t r drawn reply now' ∷ []) told' now' cookies'
+        × DeskStandsFor CanCount first opening count
+        (list ++ asked_entry caller t r drawn reply now' ∷ []) told' now' cookies'
     goes_on-asked cookies' caller t drawn r reply drew history = (
       drawn_is,
       record {
-        stands = history (fresh_draw opening list cookies.next drawn drew.above stand.drawn stand.held) stand.stands;
+        stands = history (fresh_draw opening list cookies.next drawn drew.above stand.drawn
+            stand.held) stand.stands;
         counts = All-push (λ (f : Entry). CanCount f.faults) list entry stand.counts can;
-        next = nth.1 ∙ ap (λ l. counter_after first l (draws_in list + draws r.ask)) (sym drew.last) ∙ ap (counter_after first cookies'.last) (sym (draws_in-push list entry));
+        next = nth.1 ∙ ap (λ l. counter_after first l (draws_in list + draws r.ask)) (sym drew.last)
+            ∙ ap (counter_after first cookies'.last) (sym (draws_in-push list entry));
         some = let last = drew.last in let low = stand.some in omega (arith, last, low);
-        drawn = All-push (λ (f : Entry). f.drawn < cookies'.next) list entry (below_more list cookies.next cookies'.next drew.rises stand.drawn) drew.below;
-        held = λ key. held_more (opening key) cookies.next cookies'.next drew.rises (stand.held key);
+        drawn = All-push (λ (f : Entry). f.drawn < cookies'.next) list entry
+            (below_more list cookies.next cookies'.next drew.rises stand.drawn) drew.below;
+        held = λ key. held_more (opening key) cookies.next cookies'.next drew.rises
+            (stand.held key);
       },
     )
       where
         entry : Entry
         entry = asked_entry caller t r drawn reply now'
 
-        nth : (drawn ≡ draw_of first cookies.last (draws_in list) r.ask) × (cookies'.next ≡ counter_after first cookies.last (draws_in list + draws r.ask))
+        nth : (drawn ≡ draw_of first cookies.last (draws_in list) r.ask)
+            × (cookies'.next ≡ counter_after first cookies.last (draws_in list + draws r.ask))
         nth = drew.nth first (draws_in list) stand.some stand.next
 
         drawn_is : drawn ≡ draw_of first cookies.last (draws_in list) r.ask
@@ -81,7 +99,8 @@ module _ (CanCount : ℕ → Type 0) (first : ℕ) (opening : List ℕ → Optio
     -- somebody looked for an expired item
     pub goes_on-swept : (caller t : ℕ) (s : Swept) → 0 < cookies.next
         → StandsFor opening count (list ++ swept_entry caller t s now' ∷ []) told' now'
-        → DeskStandsFor CanCount first opening count (list ++ swept_entry caller t s now' ∷ []) told' now' cookies
+        → DeskStandsFor CanCount first opening count (list ++ swept_entry caller t s now' ∷ [])
+        told' now' cookies
     goes_on-swept caller t s some stands = record {
       stands = stands;
       counts = All-push (λ (f : Entry). CanCount f.faults) list entry stand.counts can;

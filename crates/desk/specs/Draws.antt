@@ -12,7 +12,8 @@ abbrev pub draws : Ask → ℕ
 draws Acquire = 1
 draws ask = 0
 
--- what an ask draws after j draws: the j-th cookie from the first on, 0 past the last; only an acquire draws
+-- what an ask draws after j draws: the j-th cookie from the first on, 0 past the last; only an
+-- acquire draws
 abbrev pub draw_of : ℕ → ℕ → ℕ → Ask → ℕ
 draw_of first last j Acquire = unwrap_or (nth_cookie first last j) 0
 draw_of first last j ask = 0
@@ -34,7 +35,8 @@ CookiesFit cookies = (0 < cookies.next) × (cookies.last < 2 ^ 63)
 -- The ask drew its cookie by counting.
 pub record Draws (old new : Counter) (ask : Ask) (drawn : ℕ) : Type 0 where
   pub nth : (first j : ℕ) → first ≤ old.last → old.next ≡ counter_after first old.last j
-      → (drawn ≡ draw_of first old.last j ask) × (new.next ≡ counter_after first old.last (j + draws ask))
+      → (drawn ≡ draw_of first old.last j ask)
+      × (new.next ≡ counter_after first old.last (j + draws ask))
   pub above : 0 < drawn → old.next ≤ drawn
   pub below : drawn < new.next
   pub rises : old.next ≤ new.next

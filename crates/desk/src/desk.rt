@@ -64,7 +64,11 @@ impl<K: Keeper> Desk<K> {
         requires positive { 1 ≤ first }
         requires some { first ≤ last }
         requires in_range { last < 2 ^ 63 }
-        ensures { result ≡ record { keeper = keeper; cookies = record { next = first; last = last } } }
+        ensures { result ≡ record {
+          keeper = keeper;
+          cookies =
+              record { next = first; last = last };
+        } }
     {
         Desk {
             shard: Shard::new(alloc, keeper),
@@ -81,15 +85,21 @@ impl<K: Keeper> Desk<K> {
         ensures place { HasPlace result.reply }
         ensures drawn { DrawFits request.ask result.drawn }
 
-        // Behind each history that the desk stands for, the request's entry makes a history that it stands for, and its cookie is the next by counting.
-        ensures stands { (first caller : ℕ) (opening : List ℕ → Option Item) (count : ℕ) (list : List Entry) → caller < 2 ^ 63
-            → DeskStandsFor K.can_count first opening count list (K.told self.old.keeper) (K.count self.old.keeper) self.old.cookies
+        // Behind each history that the desk stands for, the request's entry makes a history that it
+        // stands for, and its cookie is the next by counting.
+        ensures stands { (first caller : ℕ) (opening : List ℕ → Option Item) (count : ℕ)
+            (list : List Entry) → caller < 2 ^ 63
+            → DeskStandsFor K.can_count first opening count list (K.told self.old.keeper)
+            (K.count self.old.keeper) self.old.cookies
             → (result.drawn ≡ draw_of first self.old.cookies.last (draws_in list) request.ask)
-            × DeskStandsFor K.can_count first opening count (list ++ asked_entry caller t request result.drawn result.reply (K.count self.new.keeper) ∷ [])
+            × DeskStandsFor K.can_count first opening count
+            (list ++ asked_entry caller t request result.drawn result.reply
+            (K.count self.new.keeper) ∷ [])
             (K.told self.new.keeper) (K.count self.new.keeper) self.new.cookies }
 
         ensures last { self.new.cookies.last ≡ self.old.cookies.last }
-        ensures fault { result.reply ≡ Reply.KeeperFault → Rose (K.count self.old.keeper) (K.count self.new.keeper) }
+        ensures fault { result.reply ≡ Reply.KeeperFault
+            → Rose (K.count self.old.keeper) (K.count self.new.keeper) }
         ensures count { K.count self.old.keeper ≤ K.count self.new.keeper }
         ensures floor { K.floor self.new.keeper ≡ K.floor self.old.keeper }
     {
@@ -98,20 +108,26 @@ impl<K: Keeper> Desk<K> {
         Acted { reply, drawn }
     }
 
-    /// Looks for an item that has expired at the moment `t`, in milliseconds, and removes the one that
+    /// Looks for an item that has expired at the moment `t`, in milliseconds, and removes the one
+    /// that
     /// expired first.
     pub fn sweep_one(&mut self, t: u64) -> Swept
         requires { t ≤ 2 ^ 62 }
 
-        // Behind each history that the desk stands for, the look's entry makes a history that it stands for.
-        ensures stands { (first caller : ℕ) (opening : List ℕ → Option Item) (count : ℕ) (list : List Entry) → caller < 2 ^ 63
-            → DeskStandsFor K.can_count first opening count list (K.told self.old.keeper) (K.count self.old.keeper) self.old.cookies
-            → DeskStandsFor K.can_count first opening count (list ++ swept_entry caller t result (K.count self.new.keeper) ∷ [])
+        // Behind each history that the desk stands for, the look's entry makes a history that it
+        // stands for.
+        ensures stands { (first caller : ℕ) (opening : List ℕ → Option Item) (count : ℕ)
+            (list : List Entry) → caller < 2 ^ 63
+            → DeskStandsFor K.can_count first opening count list (K.told self.old.keeper)
+            (K.count self.old.keeper) self.old.cookies
+            → DeskStandsFor K.can_count first opening count
+            (list ++ swept_entry caller t result (K.count self.new.keeper) ∷ [])
             (K.told self.new.keeper) (K.count self.new.keeper) self.new.cookies }
 
         ensures nothing { result ≡ Swept.Nothing → TellsDue (K.told self.new.keeper) t Option.None }
         ensures cookies { self.new.cookies ≡ self.old.cookies }
-        ensures fault { result ≡ Swept.KeeperFault → Rose (K.count self.old.keeper) (K.count self.new.keeper) }
+        ensures fault { result ≡ Swept.KeeperFault
+            → Rose (K.count self.old.keeper) (K.count self.new.keeper) }
         ensures count { K.count self.old.keeper ≤ K.count self.new.keeper }
         ensures floor { K.floor self.new.keeper ≡ K.floor self.old.keeper }
     {

@@ -26,10 +26,12 @@ impl Model for HeldLines {
 
     ghost view = { λ h. drop h.start h.bytes.items };
 
-    ghost invariant = { λ h. (h.start ≤ h.searched) × (h.searched ≤ length h.bytes.items) × HasNo 10 (slice_range h.bytes.items h.start h.searched) };
+    ghost invariant = { λ h. (h.start ≤ h.searched) × (h.searched ≤ length h.bytes.items)
+        × HasNo 10 (slice_range h.bytes.items h.start h.searched) };
 }
 
-/// Drops the bytes before `start`, where there are any. It takes no memory, and costs the bytes from
+/// Drops the bytes before `start`, where there are any. It takes no memory, and costs the bytes
+/// from
 /// `start` on.
 fn compact(bytes: &mut Vec<u8>, start: &mut usize, searched: &mut usize)
     requires within { start.old ≤ length bytes.old.items }
@@ -103,7 +105,9 @@ impl HeldLines {
     /// feed. No byte is sought twice.
     pub fn first_line(&mut self) -> Option<usize>
         ensures same { self.new ≡ self.old }
-        ensures line { MatchOption result (HasNo 10 self.old) (λ len. (len < length self.old) × SplitsAt 10 self.old (take len self.old) (drop (len + 1) self.old)) }
+        ensures line { MatchOption result (HasNo 10 self.old)
+            (λ len. (len < length self.old) × SplitsAt 10 self.old (take len self.old)
+            (drop (len + 1) self.old)) }
     {
         match memchr(b'\n', &self.bytes[self.searched..]) {
             Some(place) => {

@@ -29,12 +29,14 @@ draw_small (Write body minutes fresh cookie) drawn h = omega arith
 draw_small (Remove cookie) drawn h = omega arith
 draw_small Reset drawn h = omega arith
 
-pub drawn_small : (deed : Deed) (drawn : ℕ) (reply : Reply) → DeedFits deed drawn reply → drawn < 2 ^ 63
+pub drawn_small : (deed : Deed) (drawn : ℕ) (reply : Reply) → DeedFits deed drawn reply
+    → drawn < 2 ^ 63
 drawn_small (Asked request) drawn reply h = draw_small request.ask drawn h.1
 drawn_small (Expired key) drawn reply h = let z = h.1 in omega arith
 drawn_small Looked drawn reply h = let z = h.0 in omega arith
 
-pub deed_in_range : (deed : Deed) (drawn : ℕ) (reply : Reply) → DeedFits deed drawn reply → DeedInRange deed
+pub deed_in_range : (deed : Deed) (drawn : ℕ) (reply : Reply) → DeedFits deed drawn reply
+    → DeedInRange deed
 deed_in_range (Asked request) drawn reply h = h.0
 deed_in_range (Expired key) drawn reply h = h.0
 deed_in_range Looked drawn reply h = tt
@@ -50,17 +52,21 @@ look_fits Bad h = absurd h
 look_fits CookiesOut h = absurd h
 look_fits PlacesOut h = absurd h
 
-pub reply_in_range : (deed : Deed) (drawn : ℕ) (reply : Reply) → DeedFits deed drawn reply → ReplyFits reply × HasPlace reply
+pub reply_in_range : (deed : Deed) (drawn : ℕ) (reply : Reply) → DeedFits deed drawn reply
+    → ReplyFits reply × HasPlace reply
 reply_in_range (Asked request) drawn reply h = (h.2, h.3)
-reply_in_range (Expired key) drawn reply h = subst (λ r. ReplyFits r × HasPlace r) (sym h.2) (tt, tt)
+reply_in_range (Expired key) drawn reply h = subst (λ r. ReplyFits r × HasPlace r) (sym h.2)
+    (tt, tt)
 reply_in_range Looked drawn reply h = look_fits reply h.1
 
-answer_of : (deed : Deed) (drawn : ℕ) (reply : Reply) → DeedFits deed drawn reply → AnswerFits deed drawn reply
+answer_of : (deed : Deed) (drawn : ℕ) (reply : Reply) → DeedFits deed drawn reply
+    → AnswerFits deed drawn reply
 answer_of (Asked request) drawn reply h = h.1
 answer_of (Expired key) drawn reply h = (h.1, h.2)
 answer_of Looked drawn reply h = h
 
-formed_of : (deed : Deed) (drawn : ℕ) (reply : Reply) → DeedInRange deed → AnswerFits deed drawn reply → ReplyFits reply → HasPlace reply → DeedFits deed drawn reply
+formed_of : (deed : Deed) (drawn : ℕ) (reply : Reply) → DeedInRange deed
+    → AnswerFits deed drawn reply → ReplyFits reply → HasPlace reply → DeedFits deed drawn reply
 formed_of (Asked request) drawn reply range answer fits place = (range, answer, fits, place)
 formed_of (Expired key) drawn reply range answer fits place = (range, answer.0, answer.1)
 formed_of Looked drawn reply range answer fits place = answer
@@ -68,7 +74,8 @@ formed_of Looked drawn reply range answer fits place = answer
 -- ---- an entry and its parts
 
 pub entry_cut : (text : List ℕ) (e : Entry) → IsEntry text e
-    → IsCut text e.caller e.moment e.faults e.drawn (key_word e.deed) (deed_words e.deed) (reply_spelling e.reply)
+    → IsCut text e.caller e.moment e.faults e.drawn (key_word e.deed) (deed_words e.deed)
+    (reply_spelling e.reply)
 unfolding entry_words
 entry_cut text e is =
     let formed = is.fits.formed in
@@ -78,11 +85,14 @@ entry_cut text e is =
       faults_fit = is.fits.faults_fit;
       drawn_fits = drawn_small e.deed e.drawn e.reply formed.deed_fits;
       key_is_word = no_space (key_word e.deed) (key_is_word e.deed is.fits.deed_bytes);
-      deed_has_no_colon = phrase_no (deed_words e.deed) 58 refl (deed_phrase e.deed (deed_in_range e.deed e.drawn e.reply formed.deed_fits) is.fits.deed_bytes);
+      deed_has_no_colon = phrase_no (deed_words e.deed) 58 refl
+          (deed_phrase e.deed (deed_in_range e.deed e.drawn e.reply formed.deed_fits)
+          is.fits.deed_bytes);
       words = is.words;
     }
 
-entry_deed : (text : List ℕ) (e : Entry) → IsEntry text e → IsDeed (key_word e.deed) (deed_words e.deed) e.deed
+entry_deed : (text : List ℕ) (e : Entry) → IsEntry text e
+    → IsDeed (key_word e.deed) (deed_words e.deed) e.deed
 entry_deed text e is = record {
   key_is = refl;
   words = refl;
@@ -90,27 +100,35 @@ entry_deed text e is = record {
   bytes = is.fits.deed_bytes;
 }
 
-entry_reply : (text : List ℕ) (e : Entry) → IsEntry text e → IsReply (reply_spelling e.reply) e.reply
+entry_reply : (text : List ℕ) (e : Entry) → IsEntry text e
+    → IsReply (reply_spelling e.reply) e.reply
 entry_reply text e is =
     let r = reply_in_range e.deed e.drawn e.reply is.fits.formed.deed_fits in
     record { words = refl; fits = r.0; has_place = r.1; bytes = is.fits.reply_bytes }
 
 pub no_line : (text : List ℕ)
-    → ((caller moment faults drawn : ℕ) (key deed reply : List ℕ) → ¬ IsCut text caller moment faults drawn key deed reply) → (e : Entry) → ¬ IsEntry text e
-no_line text none e is = none e.caller e.moment e.faults e.drawn (key_word e.deed) (deed_words e.deed) (reply_spelling e.reply) (entry_cut text e is)
+    → ((caller moment faults drawn : ℕ) (key deed reply : List ℕ)
+    → ¬ IsCut text caller moment faults drawn key deed reply) → (e : Entry) → ¬ IsEntry text e
+no_line text none e is = none e.caller e.moment e.faults e.drawn (key_word e.deed)
+    (deed_words e.deed) (reply_spelling e.reply) (entry_cut text e is)
 
-module _ (text : List ℕ) (caller moment faults drawn : ℕ) (k d r : List ℕ) (cut : IsCut text caller moment faults drawn k d r) where
-  same : (e : Entry) → IsEntry text e → SameCut caller moment faults drawn k d r e.caller e.moment e.faults e.drawn (key_word e.deed) (deed_words e.deed) (reply_spelling e.reply)
+module _ (text : List ℕ) (caller moment faults drawn : ℕ) (k d r : List ℕ)
+    (cut : IsCut text caller moment faults drawn k d r) where
+  same : (e : Entry) → IsEntry text e → SameCut caller moment faults drawn k d r e.caller e.moment
+      e.faults e.drawn (key_word e.deed) (deed_words e.deed) (reply_spelling e.reply)
   same e is =
-      cut_one text caller moment faults drawn k d r e.caller e.moment e.faults e.drawn (key_word e.deed) (deed_words e.deed) (reply_spelling e.reply) cut (entry_cut text e is)
+      cut_one text caller moment faults drawn k d r e.caller e.moment e.faults e.drawn
+      (key_word e.deed) (deed_words e.deed) (reply_spelling e.reply) cut (entry_cut text e is)
 
   its_deed : (e : Entry) → IsEntry text e → IsDeed k d e.deed
   its_deed e is =
       let s = same e is in
-      subst (λ x. IsDeed x d e.deed) (sym s.keys) (subst (λ x. IsDeed (key_word e.deed) x e.deed) (sym s.deeds) (entry_deed text e is))
+      subst (λ x. IsDeed x d e.deed) (sym s.keys)
+      (subst (λ x. IsDeed (key_word e.deed) x e.deed) (sym s.deeds) (entry_deed text e is))
 
   its_reply : (e : Entry) → IsEntry text e → IsReply r e.reply
-  its_reply e is = let s = same e is in subst (λ x. IsReply x e.reply) (sym s.replies) (entry_reply text e is)
+  its_reply e is = let s = same e is in subst (λ x. IsReply x e.reply) (sym s.replies)
+      (entry_reply text e is)
 
   pub no_deed : ((deed : Deed) → ¬ IsDeed k d deed) → (e : Entry) → ¬ IsEntry text e
   no_deed none e is = none e.deed (its_deed e is)
@@ -118,24 +136,36 @@ module _ (text : List ℕ) (caller moment faults drawn : ℕ) (k d r : List ℕ)
   pub no_answer : ((reply : Reply) → ¬ IsReply r reply) → (e : Entry) → ¬ IsEntry text e
   no_answer none e is = none e.reply (its_reply e is)
 
-  module _ (deed : Deed) (reply : Reply) (is_deed : IsDeed k d deed) (is_reply : IsReply r reply) where
+  module _ (deed : Deed) (reply : Reply) (is_deed : IsDeed k d deed)
+      (is_reply : IsReply r reply) where
     pub unfit_answer : (¬ AnswerFits deed drawn reply) → (e : Entry) → ¬ IsEntry text e
     unfit_answer not e is =
         let s = same e is in
         let answer = answer_of e.deed e.drawn e.reply is.fits.formed.deed_fits in
         let deeds = deed_one k d deed e.deed is_deed (its_deed e is) in
         let replies = reply_one r reply e.reply is_reply (its_reply e is) in
-        not (subst (λ x. AnswerFits x drawn reply) (sym deeds) (subst (λ x. AnswerFits e.deed x reply) (sym s.draws) (subst (AnswerFits e.deed e.drawn) (sym replies) answer)))
+        not (subst (λ x. AnswerFits x drawn reply) (sym deeds)
+        (subst (λ x. AnswerFits e.deed x reply) (sym s.draws)
+        (subst (AnswerFits e.deed e.drawn) (sym replies) answer)))
 
     pub entry_made : AnswerFits deed drawn reply
-        → IsEntry text (record { caller = caller; moment = moment; deed = deed; drawn = drawn; reply = reply; faults = faults })
+        → IsEntry text (record {
+          caller = caller;
+          moment = moment;
+          deed = deed;
+          drawn =
+              drawn;
+          reply = reply;
+          faults = faults;
+        })
     unfolding entry_words
     entry_made answer = record {
       fits = record {
         formed = record {
           caller_fits = cut.caller_fits;
           moment_fits = cut.moment_fits;
-          deed_fits = formed_of deed drawn reply is_deed.fits answer is_reply.fits is_reply.has_place;
+          deed_fits = formed_of deed drawn reply is_deed.fits answer is_reply.fits
+              is_reply.has_place;
         };
         faults_fit = cut.faults_fit;
         deed_bytes = is_deed.bytes;
@@ -143,25 +173,40 @@ module _ (text : List ℕ) (caller moment faults drawn : ℕ) (k d r : List ℕ)
       };
       words =
           cut.words
-          ∙ ap (λ x. decimal caller then decimal moment then decimal faults then decimal drawn then x then d then codes ":" then r) is_deed.key_is
-          ∙ ap (λ x. decimal caller then decimal moment then decimal faults then decimal drawn then key_word deed then x then codes ":" then r) is_deed.words
-          ∙ ap (λ x. decimal caller then decimal moment then decimal faults then decimal drawn then key_word deed then deed_words deed then codes ":" then x) is_reply.words;
+          ∙ ap (λ x. decimal caller then decimal moment then decimal faults then decimal drawn then
+          x then d then codes ":" then r) is_deed.key_is
+          ∙ ap (λ x. decimal caller then decimal moment then decimal faults then decimal drawn then
+          key_word deed then x then codes ":" then r) is_deed.words
+          ∙ ap (λ x. decimal caller then decimal moment then decimal faults then decimal drawn then
+          key_word deed then deed_words deed then codes ":" then x) is_reply.words;
     }
 
 -- ---- one entry
 
 entry_with : ℕ → ℕ → Deed → ℕ → Reply → ℕ → Entry
-entry_with caller moment deed drawn reply faults = record { caller = caller; moment = moment; deed = deed; drawn = drawn; reply = reply; faults = faults }
+entry_with caller moment deed drawn reply faults =
+    record {
+      caller = caller;
+      moment = moment;
+      deed = deed;
+      drawn = drawn;
+      reply = reply;
+      faults =
+          faults;
+    }
 
 pub entry_one : (text : List ℕ) (e f : Entry) → IsEntry text e → IsEntry text f → e ≡ f
 unfolding entry_with
 entry_one text e f ie jf =
     let cut = entry_cut text e ie in
-    let s = same text e.caller e.moment e.faults e.drawn (key_word e.deed) (deed_words e.deed) (reply_spelling e.reply) cut f jf in
+    let s = same text e.caller e.moment e.faults e.drawn (key_word e.deed) (deed_words e.deed)
+    (reply_spelling e.reply) cut f jf in
     let deeds = deed_one (key_word e.deed) (deed_words e.deed) e.deed f.deed (entry_deed text e ie)
-    (its_deed text e.caller e.moment e.faults e.drawn (key_word e.deed) (deed_words e.deed) (reply_spelling e.reply) cut f jf) in
+    (its_deed text e.caller e.moment e.faults e.drawn (key_word e.deed) (deed_words e.deed)
+    (reply_spelling e.reply) cut f jf) in
     let replies = reply_one (reply_spelling e.reply) e.reply f.reply (entry_reply text e ie)
-    (its_reply text e.caller e.moment e.faults e.drawn (key_word e.deed) (deed_words e.deed) (reply_spelling e.reply) cut f jf) in
+    (its_reply text e.caller e.moment e.faults e.drawn (key_word e.deed) (deed_words e.deed)
+    (reply_spelling e.reply) cut f jf) in
     ap (λ x. entry_with x e.moment e.deed e.drawn e.reply e.faults) s.callers
     ∙ ap (λ x. entry_with f.caller x e.deed e.drawn e.reply e.faults) s.moments
     ∙ ap (λ x. entry_with f.caller f.moment x e.drawn e.reply e.faults) deeds
@@ -172,15 +217,19 @@ entry_one text e f ie jf =
 -- ---- keys
 
 -- a key of no bytes is none
-pub no_bytes : (key text bytes : List ℕ) → key ≡ bytes_word bytes → AreBytes bytes → length bytes ≡ 0 → (deed : Deed) → ¬ IsDeed key text deed
+pub no_bytes : (key text bytes : List ℕ) → key ≡ bytes_word bytes → AreBytes bytes
+    → length bytes ≡ 0 → (deed : Deed) → ¬ IsDeed key text deed
 no_bytes key text bytes e h none (Asked request) is =
     let fits = is.fits in
     let b = is.bytes in
     let k = fits.key in
-    let same = ap length (string_injective request.key bytes b.0 h (ap (drop 1) (sym is.key_is ∙ e))) in
+    let same = ap length (string_injective request.key bytes b.0 h
+    (ap (drop 1) (sym is.key_is ∙ e))) in
     omega (arith, k.0)
 no_bytes key text bytes e h none (Expired other) is =
     let k = is.fits in
-    let same = ap length (string_injective other bytes is.bytes h (ap (drop 1) (sym is.key_is ∙ e))) in
+    let same = ap length (string_injective other bytes is.bytes h
+    (ap (drop 1) (sym is.key_is ∙ e))) in
     omega (arith, k.0)
-no_bytes key text bytes e h none Looked is = let same = ap (λ t. get_or t 0 0) (sym is.key_is ∙ e) in omega arith
+no_bytes key text bytes e h none Looked is = let same = ap (λ t. get_or t 0 0) (sym is.key_is ∙ e)
+    in omega arith

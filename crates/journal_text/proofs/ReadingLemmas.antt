@@ -21,18 +21,40 @@ use Rattle.journal_text.proofs.JournalLemmas.{line_then, line_short}
 first_feed : (text : List ℕ) → HasNo 10 text ⊎ ((words rest : List ℕ) × SplitsAt 10 text words rest)
 first_feed [] = inl (All-nil (λ b. b ≢ 10))
 first_feed (b ∷ bs) = elim (cases_eq b 10) [
-  | inl feed ↦ inr ([], bs, record { joined = ap (λ x. x ∷ bs) feed; first = All-nil (λ x. x ≢ 10) })
+  | inl feed ↦ inr (
+    [],
+    bs,
+    record {
+      joined = ap (λ x. x ∷ bs) feed;
+      first =
+          All-nil (λ x. x ≢ 10);
+    },
+  )
   | inr other ↦ elim (first_feed bs) [
     | inl none ↦ inl (All-cons (λ x. x ≢ 10) b bs other none)
     | inr (words, rest, split) ↦
-        inr (b ∷ words, rest, record { joined = ap (λ t. b ∷ t) split.joined; first = All-cons (λ x. x ≢ 10) b words other split.first })
+        inr (
+          b ∷ words,
+          rest,
+          record {
+            joined = ap (λ t. b ∷ t) split.joined;
+            first =
+                All-cons (λ x. x ≢ 10) b words other split.first;
+          },
+        )
   ]
 ]
 
-split_more : (text more words rest : List ℕ) → SplitsAt 10 text words rest → SplitsAt 10 (text ++ more) words (rest ++ more)
-split_more text more words rest s = record { joined = ap (λ t. t ++ more) s.joined ∙ append_assoc words (10 ∷ rest) more; first = s.first }
+split_more : (text more words rest : List ℕ) → SplitsAt 10 text words rest
+    → SplitsAt 10 (text ++ more) words (rest ++ more)
+split_more text more words rest s = record {
+  joined = ap (λ t. t ++ more) s.joined
+      ∙ append_assoc words (10 ∷ rest) more;
+  first = s.first;
+}
 
-long_more : (is_begun : Bool) (text more : List ℕ) → IsTooLong text → IsNoLine is_begun (text ++ more)
+long_more : (is_begun : Bool) (text more : List ℕ) → IsTooLong text
+    → IsNoLine is_begun (text ++ more)
 long_more is_begun text more long = elim (first_feed more) [
   | inl none ↦
       let l = length-append text more in
@@ -55,56 +77,79 @@ long_more is_begun text more long = elim (first_feed more) [
       )
 ]
 
-pub no_line_more : (is_begun : Bool) (text more : List ℕ) → IsNoLine is_begun text → IsNoLine is_begun (text ++ more)
-no_line_more is_begun text more (inl (words, rest, split, wrong)) = inl (words, rest ++ more, split_more text more words rest split, wrong)
+pub no_line_more : (is_begun : Bool) (text more : List ℕ) → IsNoLine is_begun text
+    → IsNoLine is_begun (text ++ more)
+no_line_more is_begun text more (inl (words, rest, split, wrong)) =
+    inl (words, rest ++ more, split_more text more words rest split, wrong)
 no_line_more is_begun text more (inr long) = long_more is_begun text more long
 
-held_more : (is_broken is_begun : Bool) (rest held piece kept : List ℕ) → MatchBool is_broken (IsNoLine is_begun rest) (rest ≡ held)
-    → (is_broken ≡ false → kept ≡ held ++ piece) → MatchBool is_broken (IsNoLine is_begun (rest ++ piece)) (rest ++ piece ≡ kept)
+held_more : (is_broken is_begun : Bool) (rest held piece kept : List ℕ)
+    → MatchBool is_broken (IsNoLine is_begun rest) (rest ≡ held)
+    → (is_broken ≡ false → kept ≡ held ++ piece)
+    → MatchBool is_broken (IsNoLine is_begun (rest ++ piece)) (rest ++ piece ≡ kept)
 held_more true is_begun rest held piece kept holds is = no_line_more is_begun rest piece holds
 held_more false is_begun rest held piece kept holds is = ap (λ t. t ++ piece) holds ∙ sym (is refl)
 
-kept_whole : (is_broken : Bool) (held piece : List ℕ) → is_broken ≡ false → (if is_broken then [] else held ++ piece) ≡ held ++ piece
+kept_whole : (is_broken : Bool) (held piece : List ℕ) → is_broken ≡ false
+    → (if is_broken then [] else held ++ piece) ≡ held ++ piece
 kept_whole true held piece e = cc
 kept_whole false held piece e = refl
 
-pub feed_goes_on : (text piece : List ℕ) (taken : Taken) (r : Reading) → HasRead text taken r → HasRead (text ++ piece) taken (fed r piece)
+pub feed_goes_on : (text piece : List ℕ) (taken : Taken) (r : Reading) → HasRead text taken r
+    → HasRead (text ++ piece) taken (fed r piece)
 feed_goes_on text piece taken r has = record {
   rest = has.rest ++ piece;
   fits = has.fits;
   text_is = ap (λ t. t ++ piece) has.text_is ∙ append_assoc (taken_text taken) has.rest piece;
   offset_is = has.offset_is;
   begun = has.begun;
-  holds = held_more r.is_broken r.is_begun has.rest r.held piece (if r.is_broken then [] else r.held ++ piece) has.holds (kept_whole r.is_broken r.held piece);
+  holds = held_more r.is_broken r.is_begun has.rest r.held piece
+      (if r.is_broken then [] else r.held ++ piece) has.holds (kept_whole r.is_broken r.held piece);
 }
 
-pub on_ok_goes_on : {E : Type 0} (result : Result Unit E) (piece : List ℕ) (old new : Reading) → OnOk result (new ≡ fed old piece)
-    → OnOk result ((text : List ℕ) (taken : Taken) → HasRead text taken old → HasRead (text ++ piece) taken new)
-on_ok_goes_on (Ok x) piece old new e = λ text taken has. subst (HasRead (text ++ piece) taken) (sym e) (feed_goes_on text piece taken old has)
+pub on_ok_goes_on : {E : Type 0} (result : Result Unit E) (piece : List ℕ) (old new : Reading)
+    → OnOk result (new ≡ fed old piece)
+    → OnOk result ((text : List ℕ) (taken : Taken) → HasRead text taken old
+    → HasRead (text ++ piece) taken new)
+on_ok_goes_on (Ok x) piece old new e = λ text taken has. subst (HasRead (text ++ piece) taken)
+    (sym e) (feed_goes_on text piece taken old has)
 on_ok_goes_on (Err x) piece old new e = tt
 
 -- ---- a line that is taken
 
 abbrev pub whole_reader : List ℕ → ℕ → Bool → Bool → Reading
-whole_reader held offset is_begun may_feed = record { held = held; offset = offset; is_begun = is_begun; is_broken = false; may_feed = may_feed }
+whole_reader held offset is_begun may_feed = record {
+  held = held;
+  offset = offset;
+  is_begun =
+      is_begun;
+  is_broken = false;
+  may_feed = may_feed;
+}
 
-fits_push : (list : List Entry) (e : Entry) → AllByRecursion EntryFits list → EntryFits e → AllByRecursion EntryFits (list ++ e ∷ [])
+fits_push : (list : List Entry) (e : Entry) → AllByRecursion EntryFits list → EntryFits e
+    → AllByRecursion EntryFits (list ++ e ∷ [])
 fits_push [] e h fits = (fits, tt)
 fits_push (x ∷ xs) e h fits = (h.0, fits_push xs e h.1 fits)
 
-module _ (lines : List ℕ) (offset len : ℕ) (may_feed : Bool) (below : len < length lines) (split : SplitsAt 10 lines (take len lines) (drop (len + 1) lines)) where
-  line_is : (words : List ℕ) → take len lines ≡ words → (lines ≡ line words ++ drop (len + 1) lines) × (length (line words) ≡ len + 1)
+module _ (lines : List ℕ) (offset len : ℕ) (may_feed : Bool) (below : len < length lines)
+    (split : SplitsAt 10 lines (take len lines) (drop (len + 1) lines)) where
+  line_is : (words : List ℕ) → take len lines ≡ words
+      → (lines ≡ line words ++ drop (len + 1) lines) × (length (line words) ≡ len + 1)
   line_is words is =
       let l = length-take len lines in
       let w = ap length is in
       let a = length-append words (codes "\n") in (
-        split.joined ∙ ap (λ t. t ++ 10 ∷ drop (len + 1) lines) is ∙ sym (line_then words (drop (len + 1) lines)),
+        split.joined ∙ ap (λ t. t ++ 10 ∷ drop (len + 1) lines) is
+            ∙ sym (line_then words (drop (len + 1) lines)),
         omega (arith, l, w, a),
       )
 
-  pub entry_goes_on : (text : List ℕ) (taken : Taken) (e : Entry) → EntryFits e → take len lines ≡ entry_words e
+  pub entry_goes_on : (text : List ℕ) (taken : Taken) (e : Entry) → EntryFits e
+      → take len lines ≡ entry_words e
       → HasRead text taken (whole_reader lines offset true may_feed)
-      → HasRead text (taken_with (nexts.Entry e) taken) (whole_reader (drop (len + 1) lines) (offset + (len + 1)) true false)
+      → HasRead text (taken_with (nexts.Entry e) taken)
+      (whole_reader (drop (len + 1) lines) (offset + (len + 1)) true false)
   entry_goes_on text None e fits is has = let wrong = has.begun in cc
   entry_goes_on text (Some (place, list)) e fits is has =
       let l = line_is (entry_words e) is in
@@ -118,16 +163,20 @@ module _ (lines : List ℕ) (offset len : ℕ) (may_feed : Bool) (below : len < 
         rest = drop (len + 1) lines;
         fits = (has.fits.0, fits_push list e has.fits.1 fits);
         text_is =
-            has.text_is ∙ ap (λ t. front ++ t) (has.holds ∙ l.0) ∙ sym (append_assoc front (entry_line e) (drop (len + 1) lines))
+            has.text_is ∙ ap (λ t. front ++ t) (has.holds ∙ l.0)
+            ∙ sym (append_assoc front (entry_line e) (drop (len + 1) lines))
             ∙ ap (λ t. t ++ drop (len + 1) lines) pushed;
-        offset_is = ap (λ n. n + (len + 1)) at ∙ ap (λ n. length front + n) (sym size) ∙ sym len_front ∙ whole;
+        offset_is = ap (λ n. n + (len + 1)) at ∙ ap (λ n. length front + n) (sym size)
+            ∙ sym len_front ∙ whole;
         begun = refl;
         holds = refl;
       }
 
-  pub head_goes_on : (text : List ℕ) (taken : Taken) (place : ℕ) → PlaceFits place → take len lines ≡ head_words place
+  pub head_goes_on : (text : List ℕ) (taken : Taken) (place : ℕ) → PlaceFits place
+      → take len lines ≡ head_words place
       → HasRead text taken (whole_reader lines offset false may_feed)
-      → HasRead text (taken_with (nexts.Head place) taken) (whole_reader (drop (len + 1) lines) (offset + (len + 1)) true false)
+      → HasRead text (taken_with (nexts.Head place) taken)
+      (whole_reader (drop (len + 1) lines) (offset + (len + 1)) true false)
   head_goes_on text (Some t) place fits is has = let wrong = has.begun in cc
   head_goes_on text None place fits is has =
       let l = line_is (head_words place) is in
@@ -144,17 +193,26 @@ module _ (lines : List ℕ) (offset len : ℕ) (may_feed : Bool) (below : len < 
       }
 
   -- the first line is no head
-  pub head_wrong : ((place : ℕ) → ¬ (PlaceFits place × (take len lines ≡ head_words place))) → IsNoLine false lines
+  pub head_wrong : ((place : ℕ) → ¬ (PlaceFits place × (take len lines ≡ head_words place)))
+      → IsNoLine false lines
   head_wrong none = inl (take len lines, drop (len + 1) lines, split, λ is. none is.0 (is.1, is.2))
 
   -- the first line is no entry
   pub entry_wrong : ((e : Entry) → ¬ IsEntry (take len lines) e) → IsNoLine true lines
-  entry_wrong none = inl (take len lines, drop (len + 1) lines, split, λ is. none is.0 (record { fits = is.1; words = is.2 }))
+  entry_wrong none = inl (
+    take len lines,
+    drop (len + 1) lines,
+    split,
+    λ is. none is.0
+        (record { fits = is.1; words = is.2 }),
+  )
 
 -- ---- a reader that breaks
 
-pub breaks : (held : List ℕ) (offset : ℕ) (is_begun may_feed : Bool) → IsNoLine is_begun held → (text : List ℕ) (taken : Taken)
-    → HasRead text taken (whole_reader held offset is_begun may_feed) → HasRead text taken (broken (whole_reader held offset is_begun may_feed))
+pub breaks : (held : List ℕ) (offset : ℕ) (is_begun may_feed : Bool) → IsNoLine is_begun held
+    → (text : List ℕ) (taken : Taken)
+    → HasRead text taken (whole_reader held offset is_begun may_feed)
+    → HasRead text taken (broken (whole_reader held offset is_begun may_feed))
 breaks held offset is_begun may_feed wrong text taken has = record {
   rest = has.rest;
   fits = has.fits;
@@ -164,7 +222,8 @@ breaks held offset is_begun may_feed wrong text taken has = record {
   holds = subst (IsNoLine is_begun) (sym has.holds) wrong;
 }
 
-pub stops_there : (held : List ℕ) (offset : ℕ) (is_begun may_feed : Bool) → IsNoLine is_begun held → (text : List ℕ) (taken : Taken)
+pub stops_there : (held : List ℕ) (offset : ℕ) (is_begun may_feed : Bool) → IsNoLine is_begun held
+    → (text : List ℕ) (taken : Taken)
     → HasRead text taken (whole_reader held offset is_begun may_feed) → StopsAt text offset
 stops_there held offset is_begun may_feed wrong text taken has = record {
   taken = taken;
@@ -172,69 +231,101 @@ stops_there held offset is_begun may_feed wrong text taken has = record {
   fits = has.fits;
   text_is = has.text_is;
   offset_is = has.offset_is;
-  stops = inl (subst (λ b. IsNoLine b has.rest) has.begun (subst (IsNoLine is_begun) (sym has.holds) wrong));
+  stops = inl (subst (λ b. IsNoLine b has.rest) has.begun
+      (subst (IsNoLine is_begun) (sym has.holds) wrong));
 }
 
 -- ---- the calls, by what they found
 
 abbrev pub reader_with : List ℕ → ℕ → Bool → Bool → Bool → Reading
-reader_with held offset is_begun is_broken may_feed = record { held = held; offset = offset; is_begun = is_begun; is_broken = is_broken; may_feed = may_feed }
+reader_with held offset is_begun is_broken may_feed =
+    record {
+      held = held;
+      offset = offset;
+      is_begun = is_begun;
+      is_broken = is_broken;
+      may_feed =
+          may_feed;
+    }
 
 module _ (lines : List ℕ) (offset : ℕ) (is_begun is_broken may_feed : Bool) (self : Reading)
-    (self_is : reader_with lines offset is_begun is_broken may_feed ≡ self) (whole : is_broken ≡ false)
+    (self_is : reader_with lines offset is_begun is_broken may_feed ≡ self)
+    (whole : is_broken ≡ false)
   where
     abbrev state : Bool → Bool → Reading
     state b k = reader_with lines offset b k may_feed
 
     was : (b : Bool) → is_begun ≡ b → state b false ≡ self
-    was b begun = ap (λ x. state x false) (sym begun) ∙ ap (λ x. state is_begun x) (sym whole) ∙ self_is
+    was b begun = ap (λ x. state x false) (sym begun) ∙ ap (λ x. state is_begun x) (sym whole)
+        ∙ self_is
 
     module _ (after slice : List ℕ) (len : ℕ) (new : Reading)
         (same : after ≡ lines) (sliced : slice ≡ after)
         (line_at : (len < length lines) × SplitsAt 10 lines (take len lines) (drop (len + 1) lines))
-        (new_is : new ≡ reader_with (drop (len + 1) after) (offset + (len + 1)) true is_broken false)
+        (new_is : new ≡ reader_with (drop (len + 1) after) (offset + (len + 1)) true is_broken
+        false)
       where
         is_now : whole_reader (drop (len + 1) lines) (offset + (len + 1)) true false ≡ new
         is_now =
-            ap (λ k. reader_with (drop (len + 1) lines) (offset + (len + 1)) true k false) (sym whole)
-            ∙ ap (λ l. reader_with (drop (len + 1) l) (offset + (len + 1)) true is_broken false) (sym same) ∙ sym new_is
+            ap (λ k. reader_with (drop (len + 1) lines) (offset + (len + 1)) true k false)
+            (sym whole)
+            ∙ ap (λ l. reader_with (drop (len + 1) l) (offset + (len + 1)) true is_broken false)
+            (sym same) ∙ sym new_is
 
         words_are : take len lines ≡ take len slice
         words_are = ap (take len) (sym same ∙ sym sliced)
 
-        pub entry_taken : is_begun ≡ true → (e : Entry) → IsEntry (take len slice) e → (text : List ℕ) (taken : Taken) → HasRead text taken self
+        pub entry_taken : is_begun ≡ true → (e : Entry) → IsEntry (take len slice) e
+            → (text : List ℕ) (taken : Taken) → HasRead text taken self
             → HasRead text (taken_with (nexts.Entry e) taken) new
         entry_taken begun e is text taken has =
             subst (HasRead text (taken_with (nexts.Entry e) taken)) is_now
-            (entry_goes_on lines offset len may_feed line_at.0 line_at.1 text taken e is.fits (words_are ∙ is.words) (subst (HasRead text taken) (sym (was true begun)) has))
+            (entry_goes_on lines offset len may_feed line_at.0 line_at.1 text taken e is.fits
+            (words_are ∙ is.words) (subst (HasRead text taken) (sym (was true begun)) has))
 
-        pub head_taken : is_begun ≡ false → (place : ℕ) → PlaceFits place × (take len slice ≡ head_words place) → (text : List ℕ) (taken : Taken) → HasRead text taken self
+        pub head_taken : is_begun ≡ false → (place : ℕ)
+            → PlaceFits place × (take len slice ≡ head_words place)
+            → (text : List ℕ) (taken : Taken) → HasRead text taken self
             → HasRead text (taken_with (nexts.Head place) taken) new
         head_taken begun place is text taken has =
             subst (HasRead text (taken_with (nexts.Head place) taken)) is_now
-            (head_goes_on lines offset len may_feed line_at.0 line_at.1 text taken place is.0 (words_are ∙ is.1) (subst (HasRead text taken) (sym (was false begun)) has))
+            (head_goes_on lines offset len may_feed line_at.0 line_at.1 text taken place is.0
+            (words_are ∙ is.1) (subst (HasRead text taken) (sym (was false begun)) has))
 
     -- what is no head
     pub no_head_there : (after slice : List ℕ) (len : ℕ) → after ≡ lines → slice ≡ after
-        → (len < length lines) × SplitsAt 10 lines (take len lines) (drop (len + 1) lines) → is_begun ≡ false
-        → ((place : ℕ) → ¬ (PlaceFits place × (take len slice ≡ head_words place))) → IsNoLine is_begun lines
+        → (len < length lines) × SplitsAt 10 lines (take len lines) (drop (len + 1) lines)
+        → is_begun ≡ false
+        → ((place : ℕ) → ¬ (PlaceFits place × (take len slice ≡ head_words place)))
+        → IsNoLine is_begun lines
     no_head_there after slice len same sliced line_at begun none =
         subst (λ b. IsNoLine b lines) (sym begun)
-        (head_wrong lines offset len may_feed line_at.0 line_at.1 (λ place is. none place (is.0, ap (take len) (sliced ∙ same) ∙ is.1)))
+        (head_wrong lines offset len may_feed line_at.0 line_at.1
+        (λ place is. none place (is.0, ap (take len) (sliced ∙ same) ∙ is.1)))
 
-    module _ (result : JournalNext) (wrong : IsNoLine is_begun lines) (answer : result ≡ nexts.NotAJournal offset) where
-      pub broken_no_line : IfNotAJournal result (λ _. (self.is_broken ≡ true) ⊎ IsNoLine self.is_begun self.held)
+    module _ (result : JournalNext) (wrong : IsNoLine is_begun lines)
+        (answer : result ≡ nexts.NotAJournal offset) where
+      pub broken_no_line : IfNotAJournal result
+          (λ _. (self.is_broken ≡ true) ⊎ IsNoLine self.is_begun self.held)
       broken_no_line =
-          subst (λ r. IfNotAJournal r (λ _. (self.is_broken ≡ true) ⊎ IsNoLine self.is_begun self.held)) (sym answer)
+          subst (λ r. IfNotAJournal r (λ _. (self.is_broken ≡ true)
+          ⊎ IsNoLine self.is_begun self.held)) (sym answer)
           (inr (subst (λ r. IsNoLine r.is_begun r.held) self_is wrong))
 
-      pub broken_reads : (new : Reading) → new ≡ broken (state is_begun is_broken) → (text : List ℕ) (taken : Taken) → HasRead text taken self → HasRead text (taken_with result taken) new
+      pub broken_reads : (new : Reading) → new ≡ broken (state is_begun is_broken)
+          → (text : List ℕ) (taken : Taken) → HasRead text taken self
+          → HasRead text (taken_with result taken) new
       broken_reads new new_is text taken has =
           let kept : taken_with result taken ≡ taken = ap (λ r. taken_with r taken) answer in
           subst (λ t. HasRead text t new) (sym kept)
-          (subst (HasRead text taken) (sym new_is) (breaks lines offset is_begun may_feed wrong text taken (subst (HasRead text taken) (sym (was is_begun refl)) has)))
+          (subst (HasRead text taken) (sym new_is)
+          (breaks lines offset is_begun may_feed wrong text taken
+          (subst (HasRead text taken) (sym (was is_begun refl)) has)))
 
-      pub broken_stops : IfNotAJournal result (λ at. (text : List ℕ) (taken : Taken) → HasRead text taken self → StopsAt text at)
+      pub broken_stops : IfNotAJournal result
+          (λ at. (text : List ℕ) (taken : Taken) → HasRead text taken self → StopsAt text at)
       broken_stops =
-          subst (λ r. IfNotAJournal r (λ at. (text : List ℕ) (taken : Taken) → HasRead text taken self → StopsAt text at)) (sym answer)
-          (λ text taken has. stops_there lines offset is_begun may_feed wrong text taken (subst (HasRead text taken) (sym (was is_begun refl)) has))
+          subst (λ r. IfNotAJournal r (λ at. (text : List ℕ) (taken : Taken)
+          → HasRead text taken self → StopsAt text at)) (sym answer)
+          (λ text taken has. stops_there lines offset is_begun may_feed wrong text taken
+          (subst (HasRead text taken) (sym (was is_begun refl)) has))

@@ -9,32 +9,47 @@ use Rattle.journal_text.specs.Checking.{Checked, HasTaken, Known, Knows, KnowsWh
 use Rattle.journal_text.specs.Judging.{Judges}
 use Rattle.journal_text.proofs.JudgingLemmas.{illegal-stays}
 
-one_more : (list : List Entry) (e : Entry) (taken : ℕ) → taken ≡ length list → taken + 1 ≡ length (list ++ e ∷ [])
+one_more : (list : List Entry) (e : Entry) (taken : ℕ) → taken ≡ length list
+    → taken + 1 ≡ length (list ++ e ∷ [])
 one_more list e taken is = omega (arith, is, length-append list (e ∷ []))
 
 -- an illegal list stays so
-pub taken-behind : (c : Checked) (list : List Entry) (e : Entry) (place : ℕ) (why : Why) → c.verdict ≡ Illegal place why → HasTaken c list
-    → HasTaken (record { first = c.first; taken = c.taken + 1; verdict = c.verdict; known = c.known }) (list ++ e ∷ [])
+pub taken-behind : (c : Checked) (list : List Entry) (e : Entry) (place : ℕ) (why : Why)
+    → c.verdict ≡ Illegal place why → HasTaken c list
+    → HasTaken (record {
+      first = c.first;
+      taken = c.taken + 1;
+      verdict = c.verdict;
+      known =
+          c.known;
+    }) (list ++ e ∷ [])
 taken-behind c list e place why is has = record {
   taken = one_more list e c.taken has.taken;
-  judges = subst (Judges c.first (list ++ e ∷ [])) (sym is) (illegal-stays c.first list (e ∷ []) place why (subst (Judges c.first list) is has.judges));
+  judges = subst (Judges c.first (list ++ e ∷ [])) (sym is)
+      (illegal-stays c.first list (e ∷ []) place why (subst (Judges c.first list) is has.judges));
   knows = subst (λ v. KnowsWhileLegal v c.known (list ++ e ∷ [])) (sym is) tt;
 }
 
-legal-parts : (first : ℕ) (list : List Entry) (known : Known) (verdict : Judgement) → ((place : ℕ) (why : Why) → verdict ≡ Illegal place why → ⊥)
-    → Judges first list verdict → KnowsWhileLegal verdict known list → IsLegal nothing 0 list × Knows known list
+legal-parts : (first : ℕ) (list : List Entry) (known : Known) (verdict : Judgement)
+    → ((place : ℕ) (why : Why) → verdict ≡ Illegal place why → ⊥)
+    → Judges first list verdict → KnowsWhileLegal verdict known list
+    → IsLegal nothing 0 list × Knows known list
 legal-parts first list known (Legal entries) apart judges knows = (judges.0, knows)
 legal-parts first list known (Illegal place why) apart judges knows = absurd (apart place why refl)
 
 -- what the next entry's judgement says
 abbrev pub JudgesNext : ℕ → ℕ → Known → Known → Entry → Judgement → Type 0
-JudgesNext place taken old new e judgement = (first : ℕ) (before : List Entry) → place ≡ first + length before → taken ≡ length before → IsLegal nothing 0 before → Knows old before
+JudgesNext place taken old new e judgement = (first : ℕ) (before : List Entry)
+    → place ≡ first + length before → taken ≡ length before → IsLegal nothing 0 before
+    → Knows old before
     → Judges first (before ++ e ∷ []) judgement × KnowsWhileLegal judgement new (before ++ e ∷ [])
 
 -- a legal one has the judgement of its next entry
-pub taken-next : (c : Checked) (list : List Entry) (e : Entry) (known : Known) (judgement : Judgement) → ((place : ℕ) (why : Why) → c.verdict ≡ Illegal place why → ⊥)
+pub taken-next : (c : Checked) (list : List Entry) (e : Entry) (known : Known)
+    (judgement : Judgement) → ((place : ℕ) (why : Why) → c.verdict ≡ Illegal place why → ⊥)
     → JudgesNext (c.first + c.taken) c.taken c.known known e judgement → HasTaken c list
-    → HasTaken (record { first = c.first; taken = c.taken + 1; verdict = judgement; known = known }) (list ++ e ∷ [])
+    → HasTaken (record { first = c.first; taken = c.taken + 1; verdict = judgement; known = known })
+    (list ++ e ∷ [])
 taken-next c list e known judgement apart next has =
     let parts = legal-parts c.first list c.known c.verdict apart has.judges has.knows in
     let judged = next c.first list (ap (λ n. c.first + n) has.taken) has.taken parts.0 parts.1 in

@@ -10,13 +10,15 @@ use Rattle.journal_text.specs.declared.judgement.Judgement.{Judgement}
 use Rattle.journal_text.specs.declared.judgement.Judgement.TheVariants.{Legal, Illegal}
 use Rattle.journal_text.specs.Judging.{Judges, count_before, draw_before, item_before}
 
--- What is known behind a legal history: the count of faults, the greatest cookie drawn, and the items that there are.
+-- What is known behind a legal history: the count of faults, the greatest cookie drawn, and the
+-- items that there are.
 pub record Known : Type 0 where
   pub count : ℕ
   pub draw : ℕ
   pub items : List (List ℕ × Item)
 
--- The place of the first entry, how many entries were taken, the judgement of these, and what is known while they are legal.
+-- The place of the first entry, how many entries were taken, the judgement of these, and what is
+-- known while they are legal.
 pub record Checked : Type 0 where
   pub first : ℕ
   pub taken : ℕ

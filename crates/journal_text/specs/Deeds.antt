@@ -24,7 +24,8 @@ ItemsFit pairs = (key : List ℕ) → IfSome (item_among pairs key) ItemFits
 -- The key has this item, and every other key has what it had.
 pub record Sets (old new : List (List ℕ × Item)) (key : List ℕ) (item : Option Item) : Type 0 where
   pub same : item_among new key ≡ item
-  pub others : (other : List ℕ) → bytes_eq other key ≡ false → item_among new other ≡ item_among old other
+  pub others : (other : List ℕ) → bytes_eq other key ≡ false
+      → item_among new other ≡ item_among old other
 
 -- the reply of a request that changed nothing
 abbrev pub IsRefusal : Reply → Type 0
@@ -39,7 +40,8 @@ own_reply old t drawn request = (effect old t drawn request.ask).0
 -- the reply is none that the request may be given
 abbrev pub IsWrongThere : Option Item → ℕ → ℕ → Bool → Request → Reply → Why → Type 0
 IsWrongThere old t drawn rose request reply why =
-    (why ≡ WrongReply (own_reply old t drawn request) reply) × IsWrongReply rose (own_reply old t drawn request) reply
+    (why ≡ WrongReply (own_reply old t drawn request) reply)
+    × IsWrongReply rose (own_reply old t drawn request) reply
 
 -- what is left is the new item, or nothing, and the item that was there is still to be removed
 abbrev pub IsLeft : Option Item → List ℕ → Item → Item → Left → Type 0
@@ -49,20 +51,27 @@ IsLeft after key old new (left.Nothing gone) = (after ≡ None) × (gone ≡ key
 
 -- what a request leaves of the item that is there, or why it may not have been answered so
 abbrev pub Leaves : Item → Item → ℕ → ℕ → Bool → Request → Reply → Left → Type 0
-Leaves old new t drawn rose request reply (left.Wrong why) = IsWrongThere (Some old) t drawn rose request reply why
+Leaves old new t drawn rose request reply (left.Wrong why) =
+    IsWrongThere (Some old) t drawn rose request reply why
 Leaves old new t drawn rose request reply left =
-    IsRightReply rose (own_reply (Some old) t drawn request) reply × IsLeft (after_reply (Some old) t drawn request.ask reply) request.key old new left
+    IsRightReply rose (own_reply (Some old) t drawn request) reply
+    × IsLeft (after_reply (Some old) t drawn request.ask reply) request.key old new left
 
 -- the deed may be done, and leaves the items so
-abbrev pub IsDone : List (List ℕ × Item) → List (List ℕ × Item) → Deed → ℕ → ℕ → Bool → Reply → Type 0
+abbrev pub IsDone : List (List ℕ × Item) → List (List ℕ × Item) → Deed → ℕ → ℕ → Bool → Reply
+    → Type 0
 IsDone old new (Asked request) t drawn rose reply =
     IsRightReply rose (own_reply (item_among old request.key) t drawn request) reply
     × Sets old new request.key (after_reply (item_among old request.key) t drawn request.ask reply)
-IsDone old new (Expired key) t drawn rose reply = IsDead (item_among old key) t × Sets old new key None
+IsDone old new (Expired key) t drawn rose reply = IsDead (item_among old key) t
+    × Sets old new key None
 IsDone old new Looked t drawn rose reply = IsRightReply rose Done reply × (new ≡ old)
 
 -- the deed may not be done
 abbrev pub IsBarred : List (List ℕ × Item) → Deed → ℕ → ℕ → Bool → Reply → Why → Type 0
-IsBarred old (Asked request) t drawn rose reply why = IsWrongThere (item_among old request.key) t drawn rose request reply why
-IsBarred old (Expired key) t drawn rose reply why = (why ≡ NotDue) × IsNotDead (item_among old key) t
-IsBarred old Looked t drawn rose reply why = (why ≡ WrongReply Done reply) × IsWrongReply rose Done reply
+IsBarred old (Asked request) t drawn rose reply why =
+    IsWrongThere (item_among old request.key) t drawn rose request reply why
+IsBarred old (Expired key) t drawn rose reply why = (why ≡ NotDue)
+    × IsNotDead (item_among old key) t
+IsBarred old Looked t drawn rose reply why = (why ≡ WrongReply Done reply)
+    × IsWrongReply rose Done reply

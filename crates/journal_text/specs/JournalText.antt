@@ -1,4 +1,5 @@
--- The text of a journal: a line with the place of its first entry, and then a line for each entry. Each line is words with one
+-- The text of a journal: a line with the place of its first entry, and then a line for each entry.
+-- Each line is words with one
 -- space between two, and one line feed.
 use Rattle.std.specs.Prelude.{◌≡◌, ℕ, ◌<◌, ◌-◌, ◌^◌, List, ◌++◌, codes, decimal, ⊤}
 use Rattle.std.specs.List.{AllByRecursion, flat_map}
@@ -37,7 +38,8 @@ number_words e = decimal e.caller then decimal e.moment then decimal e.faults th
 
 -- `CALLER MOMENT FAULTS DRAWN KEY DEED : REPLY`
 unfoldable pub entry_words : Entry → List ℕ
-entry_words e = number_words e then key_word e.deed then deed_words e.deed then codes ":" then reply_spelling e.reply
+entry_words e = number_words e then key_word e.deed then deed_words e.deed then codes ":" then
+    reply_spelling e.reply
 
 -- the words and a line feed
 abbrev pub line : List ℕ → List ℕ
@@ -77,7 +79,8 @@ DeedHasBytes (Asked request) = AreBytes request.key × AskHasBytes request.ask
 DeedHasBytes (Expired key) = AreBytes key
 DeedHasBytes Looked = ⊤
 
--- A formed entry whose count of faults is a number of 64 bits, and whose keys and content are bytes.
+-- A formed entry whose count of faults is a number of 64 bits, and whose keys and content are
+-- bytes.
 pub record EntryFits (e : Entry) : Type 0 where
   pub formed : IsFormed e
   pub faults_fit : e.faults < 2 ^ 64

@@ -7,14 +7,16 @@ use Rattle.journal_text.specs.JournalText.{head_words, entry_words, line, journa
 
 -- ---- lines
 
--- the words are a line of its place: the first line where nothing was taken, and then the line of an entry
+-- the words are a line of its place: the first line where nothing was taken, and then the line of
+-- an entry
 abbrev pub IsLine : Bool → List ℕ → Type 0
 IsLine false words = (place : ℕ) × PlaceFits place × (words ≡ head_words place)
 IsLine true words = (e : Entry) × EntryFits e × (words ≡ entry_words e)
 
 -- the first line of the bytes is none of its place
 abbrev pub BeginsWrong : Bool → List ℕ → Type 0
-BeginsWrong is_begun bytes = (words rest : List ℕ) × SplitsAt 10 bytes words rest × (¬ IsLine is_begun words)
+BeginsWrong is_begun bytes = (words rest : List ℕ) × SplitsAt 10 bytes words rest
+    × (¬ IsLine is_begun words)
 
 -- there is no line feed among more bytes than a line has
 abbrev pub IsTooLong : List ℕ → Type 0
@@ -49,7 +51,8 @@ IsJournalOf text (Some t) = IsJournal text t.0 t.1
 abbrev pub IsCutOff : Bool → List ℕ → Type 0
 IsCutOff is_begun rest = HasNo 10 rest × ((rest ≢ []) ⊎ (is_begun ≡ false))
 
--- The text stops being a journal at this offset: that of its first line that is none of its place, or of a last line
+-- The text stops being a journal at this offset: that of its first line that is none of its place,
+-- or of a last line
 -- without its line feed.
 pub record StopsAt (text : List ℕ) (offset : ℕ) : Type 0 where
   pub taken : Taken
@@ -61,7 +64,8 @@ pub record StopsAt (text : List ℕ) (offset : ℕ) : Type 0 where
 
 -- ---- readers
 
--- A reader: the bytes that were fed and not taken, how many were taken before them, whether the first line was taken, whether
+-- A reader: the bytes that were fed and not taken, how many were taken before them, whether the
+-- first line was taken, whether
 -- it is broken, and whether it may be fed.
 pub record Reading : Type 0 where
   pub held : List ℕ
@@ -84,7 +88,11 @@ new_reader = record { held = []; offset = 0; is_begun = false; is_broken = false
 
 -- with one piece more; a broken reader keeps nothing
 abbrev pub fed : Reading → List ℕ → Reading
-fed old piece = record old { held = if old.is_broken then [] else old.held ++ piece; may_feed = false }
+fed old piece = record old {
+  held = if old.is_broken then [] else old.held ++ piece;
+  may_feed =
+      false;
+}
 
 -- that waits for more bytes
 abbrev pub waiting : Reading → Reading

@@ -15,7 +15,8 @@ use Rattle.journal_text.specs.JournalText.{AskHasBytes, ReplyHasBytes, DeedHasBy
 
 -- the words that a write and what was found have in common
 abbrev pub content_words : Content → List ℕ
-content_words c = cookie_word c.cookie then decimal c.minutes then flag_word c.flag then bytes_word c.body
+content_words c = cookie_word c.cookie then decimal c.minutes then flag_word c.flag then
+    bytes_word c.body
 
 -- The text is these words, and each number is in its range.
 pub record IsContent (text : List ℕ) (c : Content) : Type 0 where
@@ -63,11 +64,13 @@ pub record IsEntry (text : List ℕ) (e : Entry) : Type 0 where
   pub words : text ≡ entry_words e
 
 -- The text is four numbers in range, a key, what was done and what was answered.
-pub record IsCut (text : List ℕ) (caller moment faults drawn : ℕ) (key deed reply : List ℕ) : Type 0 where
+pub record IsCut (text : List ℕ) (caller moment faults drawn : ℕ) (key deed reply : List ℕ) : Type
+    0 where
   pub caller_fits : caller < 2 ^ 63
   pub moment_fits : moment ≤ 2 ^ 62
   pub faults_fit : faults < 2 ^ 64
   pub drawn_fits : drawn < 2 ^ 63
   pub key_is_word : HasNo 32 key
   pub deed_has_no_colon : HasNo 58 deed
-  pub words : text ≡ decimal caller then decimal moment then decimal faults then decimal drawn then key then deed then codes ":" then reply
+  pub words : text ≡ decimal caller then decimal moment then decimal faults then decimal drawn then
+      key then deed then codes ":" then reply

@@ -3,10 +3,10 @@ ghost use Rattle.std.specs.Prelude.{◌≢◌, ◌++◌, codes, IfOk, IfSome, If
 ghost use Rattle.plain_words.specs.Words.{Reads};
 ghost use Rattle.journal_text.specs.Spelled.{IsAsk};
 
-use crate::content_words::{named, read_content};
+use crate::content_words::read_content;
 use crate::number_words::{is, strip};
 use asp_base::NoMemory;
-use asp_messages::{Ask, MOST_COOKIE};
+use asp_messages::{Ask, MOST_COOKIE, named};
 use plain_words::read_plain_number;
 use std::alloc::Global;
 
@@ -42,7 +42,8 @@ fn read_write(alloc: Global, content: &[u8]) -> Result<Option<Ask>, NoMemory>
 
 fn one_word_ask(text: &[u8]) -> Option<Ask>
     ensures some { IfSome result (IsAsk text.now) }
-    ensures none { IfNone result ((text.now ≢ codes "read") × (text.now ≢ codes "acquire") × (text.now ≢ codes "reset")) }
+    ensures none { IfNone result ((text.now ≢ codes "read") × (text.now ≢ codes "acquire")
+        × (text.now ≢ codes "reset")) }
 {
     if is(text, b"read") {
         Some(Ask::Read)
@@ -55,7 +56,8 @@ fn one_word_ask(text: &[u8]) -> Option<Ask>
     }
 }
 
-/// The ask in range that the text spells; `None` exactly where it spells none. The only error is want
+/// The ask in range that the text spells; `None` exactly where it spells none. The only error is
+/// want
 /// of memory for its content.
 pub fn read_ask(alloc: Global, text: &[u8]) -> Result<Option<Ask>, NoMemory>
     ensures { IfOk result (Reads (IsAsk text.now)) }

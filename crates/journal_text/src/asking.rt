@@ -50,7 +50,8 @@ fn body_made(alloc: Global, of_request: bool, ask: Ask) -> Bytes
 
 /// Makes the change to an item that is there.
 fn change_there(alloc: Global, item: &mut Item, request: Request, change: Change) -> Left
-    ensures { IsLeft (changed change (Some item.old) request.ask) request.key item.old item.new result }
+    ensures { IsLeft (changed change (Some item.old) request.ask) request.key item.old item.new
+        result }
 {
     let Request { key, ask } = request;
     match change {
@@ -112,7 +113,8 @@ fn change_absent(
     change: Change,
 ) -> Result<(), NoMemory>
     requires { item_among items.old.entries request.key ≡ None }
-    ensures ok { OnOk result (Sets items.old.entries items.new.entries request.key (changed change None request.ask)) }
+    ensures ok { OnOk result (Sets items.old.entries items.new.entries request.key
+        (changed change None request.ask)) }
     ensures err { OnErr result (items.new.entries ≡ items.old.entries) }
 {
     if let Change::Store {
@@ -151,7 +153,8 @@ fn ask_absent(
     requires drawn { DrawFits request.ask drawn }
     requires absent { item_among items.old.entries request.key ≡ None }
     requires fits { ItemsFit items.old.entries }
-    ensures asked { IfOk result (λ why. MatchOption why (IsDone items.old.entries items.new.entries (Asked request) t drawn rose reply)
+    ensures asked { IfOk result (λ why. MatchOption why
+        (IsDone items.old.entries items.new.entries (Asked request) t drawn rose reply)
         (IsBarred items.old.entries (Asked request) t drawn rose reply)) }
     ensures fits { ItemsFit items.new.entries }
     ensures err { OnErr result (items.new.entries ≡ items.old.entries) }
@@ -179,7 +182,8 @@ pub fn ask(
     requires request { RequestFits request }
     requires drawn { DrawFits request.ask drawn }
     requires fits { ItemsFit items.old.entries }
-    ensures asked { IfOk result (λ why. MatchOption why (IsDone items.old.entries items.new.entries (Asked request) t drawn rose reply)
+    ensures asked { IfOk result (λ why. MatchOption why
+        (IsDone items.old.entries items.new.entries (Asked request) t drawn rose reply)
         (IsBarred items.old.entries (Asked request) t drawn rose reply)) }
     ensures fits { ItemsFit items.new.entries }
     ensures err { OnErr result (items.new.entries ≡ items.old.entries) }

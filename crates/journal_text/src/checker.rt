@@ -12,7 +12,8 @@ use session_machine::Entry;
 use std::alloc::Global;
 use std::marker::Model;
 
-/// It takes the entries of a list in turn, and judges whether they are a legal history from no items
+/// It takes the entries of a list in turn, and judges whether they are a legal history from no
+/// items
 /// and no fault. It keeps the items that there are, and no entry.
 #[derive(Debug, Drop)]
 pub struct Checker {
@@ -29,13 +30,20 @@ impl Model for Checker {
 
     ghost Value = { Checked };
 
-    ghost view = { λ c. record { first = c.first_place; taken = c.taken; verdict = c.verdict; known = c.standing } };
+    ghost view = { λ c. record {
+      first = c.first_place;
+      taken = c.taken;
+      verdict =
+          c.verdict;
+      known = c.standing;
+    } };
 
     ghost invariant = { λ c. c.first_place < 2 ^ 63 - 1 };
 }
 
 impl Checker {
-    /// A checker that has taken no entry. The first that it takes has the place `first_place`, below
+    /// A checker that has taken no entry. The first that it takes has the place `first_place`,
+    /// below
     /// 2^63 - 1. It takes no memory.
     pub fn new(alloc: Global, first_place: u64) -> Checker
         requires { first_place < 2 ^ 63 - 1 }
@@ -59,7 +67,8 @@ impl Checker {
         requires entry { IsFormed entry }
 
         // The checker stands for the list that it took.
-        ensures taken { (list : List Entry) → HasTaken self.old list → OnOk result (HasTaken self.new (list ++ entry ∷ [])) }
+        ensures taken { (list : List Entry) → HasTaken self.old list
+            → OnOk result (HasTaken self.new (list ++ entry ∷ [])) }
 
         ensures count { OnOk result (self.new.taken ≡ self.old.taken + 1) }
         ensures first { self.new.first ≡ self.old.first }
@@ -78,7 +87,8 @@ impl Checker {
     /// The judgement of the entries taken. It takes no memory.
     pub fn verdict(&self) -> &Judgement
         ensures verdict { result.now ≡ self.now.verdict }
-        ensures judges { (list : List Entry) → HasTaken self.now list → Judges self.now.first list result.now }
+        ensures judges { (list : List Entry) → HasTaken self.now list
+            → Judges self.now.first list result.now }
     {
         &self.verdict
     }

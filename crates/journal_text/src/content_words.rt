@@ -6,7 +6,7 @@ ghost use Rattle.journal_text.specs.Spelled.{IsContent};
 
 use crate::number_words::cut_number;
 use asp_base::{Bytes, NoMemory};
-use asp_messages::{MOST_BODY, MOST_COOKIE, MOST_MINUTES};
+use asp_messages::{MOST_BODY, MOST_COOKIE, MOST_MINUTES, named};
 use plain_words::{read_byte_string, read_flag, split_word};
 use std::alloc::Global;
 
@@ -23,14 +23,8 @@ pub struct Content {
     pub body: Bytes,
 }
 
-/// The cookie of a number; 0 names none.
-pub fn named(cookie: u64) -> Option<u64>
-    ensures { result ≡ fields.named cookie }
-{
-    if cookie == 0 { None } else { Some(cookie) }
-}
-
-/// What the words `COOKIE MINUTES FLAG BODY` say; `None` exactly where the text is no such words. The
+/// What the words `COOKIE MINUTES FLAG BODY` say; `None` exactly where the text is no such words.
+/// The
 /// only error is want of memory for the content.
 pub fn read_content(alloc: Global, text: &[u8]) -> Result<Option<Content>, NoMemory>
     ensures { IfOk result (Reads (IsContent text.now)) }

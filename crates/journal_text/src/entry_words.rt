@@ -29,7 +29,10 @@ struct Cut<'a> {
 
 /// The line cut at its first spaces and its colon; `None` exactly where it is not so made up.
 fn cut_line(line: &[u8]) -> Option<Cut<'_>>
-    ensures { MatchOption result ((caller moment faults drawn : ℕ) (key deed reply : List ℕ) → ¬ IsCut line.now caller moment faults drawn key deed reply) (λ cut. IsCut line.now cut.caller cut.moment cut.faults cut.drawn cut.key.now cut.deed.now cut.reply.now) }
+    ensures { MatchOption result ((caller moment faults drawn : ℕ) (key deed reply : List ℕ)
+        → ¬ IsCut line.now caller moment faults drawn key deed reply)
+        (λ cut. IsCut line.now cut.caller cut.moment cut.faults cut.drawn cut.key.now cut.deed.now
+        cut.reply.now) }
 {
     let (caller, from_moment) = cut_number(line, MOST_CALLER)?;
     let (moment, from_faults) = cut_number(from_moment, LAST_MOMENT)?;
@@ -50,7 +53,8 @@ fn cut_line(line: &[u8]) -> Option<Cut<'_>>
     })
 }
 
-/// The deed in range that the words spell on this key; `None` exactly where they spell none. The only
+/// The deed in range that the words spell on this key; `None` exactly where they spell none. The
+/// only
 /// error is want of memory for its key and content.
 fn read_deed(alloc: Global, key: &[u8], text: &[u8]) -> Result<Option<Deed>, NoMemory>
     ensures { IfOk result (Reads (IsDeed key.now text.now)) }
@@ -93,7 +97,8 @@ fn answer_fits(deed: &Deed, drawn: u64, reply: &Reply) -> bool
     }
 }
 
-/// The entry that the words of a line spell; `None` exactly where they spell none. The only error is
+/// The entry that the words of a line spell; `None` exactly where they spell none. The only error
+/// is
 /// want of memory for its keys and content.
 pub fn read_entry(alloc: Global, line: &[u8]) -> Result<Option<Entry>, NoMemory>
     ensures { IfOk result (Reads (IsEntry line.now)) }

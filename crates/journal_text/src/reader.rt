@@ -57,9 +57,17 @@ impl Model for JournalReader {
 
     ghost Value = { Reading };
 
-    ghost view = { λ r. record { held = r.lines; offset = r.offset; is_begun = r.is_begun; is_broken = r.is_broken; may_feed = r.may_feed } };
+    ghost view = { λ r. record {
+      held = r.lines;
+      offset = r.offset;
+      is_begun =
+          r.is_begun;
+      is_broken = r.is_broken;
+      may_feed = r.may_feed;
+    } };
 
-    ghost invariant = { λ r. (length r.lines ≤ most_held) × (r.offset + length r.lines < 2 ^ 63 - 1) × (IsTrue r.may_feed → (length r.lines ≤ most_line) × HasNo 10 r.lines) };
+    ghost invariant = { λ r. (length r.lines ≤ most_held) × (r.offset + length r.lines < 2 ^ 63 - 1)
+        × (IsTrue r.may_feed → (length r.lines ≤ most_line) × HasNo 10 r.lines) };
 }
 
 impl JournalReader {
@@ -78,16 +86,20 @@ impl JournalReader {
         }
     }
 
-    /// Adds a piece of at most 16,384 bytes to those held; a broken reader keeps nothing. The caller
-    /// has heard `More` or `NotAJournal` since the last piece. After `NoMemory` nothing has changed.
+    /// Adds a piece of at most 16,384 bytes to those held; a broken reader keeps nothing. The
+    /// caller
+    /// has heard `More` or `NotAJournal` since the last piece. After `NoMemory` nothing has
+    /// changed.
     pub fn feed(&mut self, piece: &[u8]) -> Result<(), NoMemory>
         requires piece { length piece.now ≤ most_piece }
         requires may_feed { IsTrue self.old.may_feed }
-        requires text_fits { self.old.offset + length self.old.held + length piece.now < 2 ^ 63 - 1 }
+        requires text_fits { self.old.offset + length self.old.held + length piece.now
+            < 2 ^ 63 - 1 }
         ensures ok { OnOk result (self.new ≡ fed self.old piece.now) }
         ensures err { OnErr result (self.new ≡ self.old) }
         ensures bound { length self.new.held ≤ most_held }
-        ensures reads { OnOk result ((text : List ℕ) (taken : Taken) → HasRead text taken self.old → HasRead (text ++ piece.now) taken self.new) }
+        ensures reads { OnOk result ((text : List ℕ) (taken : Taken) → HasRead text taken self.old
+            → HasRead (text ++ piece.now) taken self.new) }
     {
         self.add(piece)
     }
@@ -95,7 +107,8 @@ impl JournalReader {
     fn add(&mut self, piece: &[u8]) -> Result<(), NoMemory>
         requires piece { length piece.now ≤ most_piece }
         requires may_feed { IsTrue self.old.may_feed }
-        requires text_fits { self.old.offset + length self.old.held + length piece.now < 2 ^ 63 - 1 }
+        requires text_fits { self.old.offset + length self.old.held + length piece.now
+            < 2 ^ 63 - 1 }
         ensures ok { OnOk result (self.new ≡ fed self.old piece.now) }
         ensures err { OnErr result (self.new ≡ self.old) }
         ensures bound { length self.new.held ≤ most_held }
@@ -111,7 +124,15 @@ impl JournalReader {
 
     fn take(&mut self, len: usize)
         requires { len < length self.old.held }
-        ensures { self.new ≡ record { held = drop (len + 1) self.old.held; offset = self.old.offset + (len + 1); is_begun = true; is_broken = self.old.is_broken; may_feed = false } }
+        ensures { self.new ≡ record {
+          held = drop (len + 1) self.old.held;
+          offset =
+              self.old.offset + (len + 1);
+          is_begun = true;
+          is_broken = self.old.is_broken;
+          may_feed =
+              false;
+        } }
     {
         self.lines.take_line(len);
         self.offset += len as u64 + 1;
@@ -134,30 +155,39 @@ impl JournalReader {
     /// The first line of the bytes held, which is taken.
     pub fn next(&mut self) -> JournalNext
         // The line with the place, where nothing was taken before.
-        ensures head { IfHead result (λ place. PlaceFits place × IsFalse self.old.is_begun × TakesLine (head_words place) self.old self.new) }
+        ensures head { IfHead result (λ place. PlaceFits place × IsFalse self.old.is_begun
+            × TakesLine (head_words place) self.old self.new) }
 
         // The line of an entry, behind that.
-        ensures entry { IfEntry result (λ e. EntryFits e × IsTrue self.old.is_begun × TakesLine (entry_words e) self.old self.new) }
+        ensures entry { IfEntry result (λ e. EntryFits e × IsTrue self.old.is_begun
+            × TakesLine (entry_words e) self.old self.new) }
 
         // No line is whole, and there is room for more bytes.
         ensures more { result ≡ JournalNext.More → self.new ≡ waiting self.old }
-        ensures none_whole { result ≡ JournalNext.More → IsFalse self.old.is_broken × HasNo 10 self.old.held × (length self.old.held ≤ most_line) }
+        ensures none_whole { result ≡ JournalNext.More
+            → IsFalse self.old.is_broken × HasNo 10 self.old.held
+            × (length self.old.held ≤ most_line) }
 
         // The first line is none of its place, whatever follows, and the reader stays broken.
         ensures offset { IfNotAJournal result (λ offset. offset ≡ self.old.offset) }
         ensures broken { IfNotAJournal result (λ _. self.new ≡ broken self.old) }
-        ensures no_line { IfNotAJournal result (λ _. IsTrue self.old.is_broken ⊎ IsNoLine self.old.is_begun self.old.held) }
-        ensures stays { IsTrue self.old.is_broken → result ≡ JournalNext.NotAJournal self.old.offset }
+        ensures no_line { IfNotAJournal result
+            (λ _. IsTrue self.old.is_broken ⊎ IsNoLine self.old.is_begun self.old.held) }
+        ensures stays { IsTrue self.old.is_broken
+            → result ≡ JournalNext.NotAJournal self.old.offset }
 
         ensures no_memory { result ≡ JournalNext.NoMemory → self.new ≡ self.old }
         ensures bound { length self.new.held ≤ most_held }
 
         // It takes bytes, and adds none.
-        ensures counted { self.new.offset + length self.new.held ≤ self.old.offset + length self.old.held }
+        ensures counted { self.new.offset + length self.new.held ≤ self.old.offset
+            + length self.old.held }
 
         // What was taken of a text grows by the answer, and where it stops, the text is no journal.
-        ensures reads { (text : List ℕ) (taken : Taken) → HasRead text taken self.old → HasRead text (taken_with result taken) self.new }
-        ensures stops { IfNotAJournal result (λ offset. (text : List ℕ) (taken : Taken) → HasRead text taken self.old → StopsAt text offset) }
+        ensures reads { (text : List ℕ) (taken : Taken) → HasRead text taken self.old
+            → HasRead text (taken_with result taken) self.new }
+        ensures stops { IfNotAJournal result (λ offset. (text : List ℕ) (taken : Taken)
+            → HasRead text taken self.old → StopsAt text offset) }
     {
         if self.is_broken {
             return self.break_off();
@@ -190,15 +220,20 @@ impl JournalReader {
         }
     }
 
-    /// Where a text that ends here is no journal: `None` exactly where it is one. Else the offset of
-    /// the line at which the reader is broken, or of a last line without its line feed, or 0 for the
+    /// Where a text that ends here is no journal: `None` exactly where it is one. Else the offset
+    /// of
+    /// the line at which the reader is broken, or of a last line without its line feed, or 0 for
+    /// the
     /// empty text. The caller has heard `More` or `NotAJournal` since the last piece.
     pub fn finish(&self) -> Option<u64>
         requires { IsTrue self.now.may_feed }
-        ensures whole { result ≡ None ↔ (IsFalse self.now.is_broken × IsTrue self.now.is_begun × (self.now.held ≡ [])) }
+        ensures whole { result ≡ None ↔ (IsFalse self.now.is_broken × IsTrue self.now.is_begun
+            × (self.now.held ≡ [])) }
         ensures offset { IfSome result (λ offset. offset ≡ self.now.offset) }
-        ensures journal { IfNone result ((text : List ℕ) (taken : Taken) → HasRead text taken self.now → IsJournalOf text taken) }
-        ensures stops { IfSome result (λ offset. (text : List ℕ) (taken : Taken) → HasRead text taken self.now → StopsAt text offset) }
+        ensures journal { IfNone result ((text : List ℕ) (taken : Taken)
+            → HasRead text taken self.now → IsJournalOf text taken) }
+        ensures stops { IfSome result (λ offset. (text : List ℕ) (taken : Taken)
+            → HasRead text taken self.now → StopsAt text offset) }
     {
         if !self.is_broken && self.is_begun && self.lines.as_slice().is_empty() {
             return None;

@@ -34,7 +34,9 @@ fn read_found(alloc: Global, content: &[u8]) -> Result<Option<Reply>, NoMemory>
 
 fn one_word_reply(text: &[u8]) -> Option<Reply>
     ensures some { IfSome result (IsReply text.now) }
-    ensures none { IfNone result ((text.now ≢ codes "done") × (text.now ≢ codes "missing") × (text.now ≢ codes "keeper-fault") × (text.now ≢ codes "no-memory") × (text.now ≢ codes "cookies-out")) }
+    ensures none { IfNone result ((text.now ≢ codes "done") × (text.now ≢ codes "missing")
+        × (text.now ≢ codes "keeper-fault") × (text.now ≢ codes "no-memory")
+        × (text.now ≢ codes "cookies-out")) }
 {
     if is(text, b"done") {
         Some(Reply::Done)

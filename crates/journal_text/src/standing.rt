@@ -41,7 +41,9 @@ impl Model for Standing {
 /// An expiry: the item that had expired is removed.
 fn expire(items: &mut BTreeMap<Bytes, Item>, key: &Bytes, t: u64) -> Option<Why>
     requires fits { ItemsFit items.old.entries }
-    ensures expired { MatchOption result (IsDone items.old.entries items.new.entries (Expired key.now) t 0 false Done) (IsBarred items.old.entries (Expired key.now) t 0 false Done) }
+    ensures expired { MatchOption result (IsDone items.old.entries items.new.entries
+        (Expired key.now) t 0 false Done) (IsBarred items.old.entries (Expired key.now) t 0 false
+        Done) }
     ensures fits { ItemsFit items.new.entries }
 {
     match items.remove(key) {
@@ -63,7 +65,9 @@ fn act(
     requires moment { t ≤ 2 ^ 62 }
     requires deed { DeedFits deed drawn reply }
     requires fits { ItemsFit items.old.entries }
-    ensures acted { IfOk result (λ why. MatchOption why (IsDone items.old.entries items.new.entries deed t drawn rose reply) (IsBarred items.old.entries deed t drawn rose reply)) }
+    ensures acted { IfOk result (λ why. MatchOption why
+        (IsDone items.old.entries items.new.entries deed t drawn rose reply)
+        (IsBarred items.old.entries deed t drawn rose reply)) }
     ensures fits { ItemsFit items.new.entries }
     ensures err { OnErr result (items.new.entries ≡ items.old.entries) }
 {
@@ -98,7 +102,9 @@ impl Standing {
     fn admit(&mut self, alloc: Global, entry: Entry) -> Result<Option<Why>, NoMemory>
         requires { IsFormed entry }
         ensures admitted { (before : List Entry) → IsLegal nothing 0 before → Knows self.old before
-            → IfOk result (λ why. MatchOption why (IsLegal nothing 0 (before ++ entry ∷ []) × Knows self.new (before ++ entry ∷ [])) (IsReason before entry)) }
+            → IfOk result (λ why. MatchOption why
+            (IsLegal nothing 0 (before ++ entry ∷ []) × Knows self.new (before ++ entry ∷ []))
+            (IsReason before entry)) }
         ensures err { OnErr result (self.new ≡ self.old) }
     {
         let Entry {
@@ -142,8 +148,10 @@ impl Standing {
     ) -> Result<Judgement, NoMemory>
         requires entry { IsFormed entry }
         requires few { taken < 2 ^ 63 - 1 }
-        ensures judged { (first : ℕ) (before : List Entry) → place ≡ first + length before → taken ≡ length before → IsLegal nothing 0 before → Knows self.old before
-            → IfOk result (λ judgement. Judges first (before ++ entry ∷ []) judgement × KnowsWhileLegal judgement self.new (before ++ entry ∷ [])) }
+        ensures judged { (first : ℕ) (before : List Entry) → place ≡ first + length before
+            → taken ≡ length before → IsLegal nothing 0 before → Knows self.old before
+            → IfOk result (λ judgement. Judges first (before ++ entry ∷ []) judgement
+            × KnowsWhileLegal judgement self.new (before ++ entry ∷ [])) }
         ensures err { OnErr result (self.new ≡ self.old) }
     {
         match self.admit(alloc, entry)? {

@@ -8,62 +8,13 @@ ghost use Rattle.plain_words.specs.Words.{AreBytes};
 ghost use Rattle.journal_text.specs.JournalText.{PlaceFits, EntryFits, DeedHasBytes, AskHasBytes, ReplyHasBytes, head_line, entry_line, number_words, key_word, deed_words};
 
 use asp_base::{Bytes, NoMemory};
-use asp_messages::{Ask, Reply, spell_ask, spell_reply};
-use itoa::Buffer;
+use asp_messages::{
+    Ask, Reply, or_undo, push, push_hex, push_number, spell_ask, spell_reply, then_number,
+};
 use session_machine::{Deed, Entry};
 
 /// The most bytes of a line, without its line feed.
 pub const MOST_LINE: usize = 16_800_000;
-
-const DIGITS: [u8; 16] = *b"0123456789abcdef";
-
-fn push(out: &mut Vec<u8>, text: &[u8]) -> Result<(), NoMemory>
-    ensures ok { OnOk result (out.new.items ≡ out.old.items ++ text.now) }
-    ensures err { OnErr result (Extends out.old.items out.new.items) }
-{
-    out.extend_from_slice(text)?;
-    Ok(())
-}
-
-fn push_number(out: &mut Vec<u8>, n: u64) -> Result<(), NoMemory>
-    ensures ok { OnOk result (out.new.items ≡ out.old.items ++ decimal n) }
-    ensures err { OnErr result (Extends out.old.items out.new.items) }
-{
-    let mut buffer = Buffer::new();
-    push(out, buffer.format(n).as_bytes())
-}
-
-fn then_number(out: &mut Vec<u8>, n: u64) -> Result<(), NoMemory>
-    ensures ok { OnOk result (out.new.items ≡ out.old.items then decimal n) }
-    ensures err { OnErr result (Extends out.old.items out.new.items) }
-{
-    push(out, b" ")?;
-    push_number(out, n)
-}
-
-/// After a failure, takes off what was appended since the buffer had this length.
-fn or_undo(written: Result<(), NoMemory>, out: &mut Vec<u8>, len: usize) -> Result<(), NoMemory>
-    ensures result { result ≡ written }
-    ensures items { out.new.items ≡ (if is_ok written then out.old.items else take len out.old.items) }
-{
-    if written.is_err() {
-        out.truncate(len);
-    }
-    written
-}
-
-fn push_hex(out: &mut Vec<u8>, bytes: &[u8]) -> Result<(), NoMemory>
-    ensures ok { OnOk result (out.new.items ≡ out.old.items ++ encode_lower bytes.now) }
-    ensures err { OnErr result (Extends out.old.items out.new.items) }
-{
-    for byte in bytes {
-        push(
-            out,
-            &[DIGITS[(byte / 16) as usize], DIGITS[(byte % 16) as usize]],
-        )?;
-    }
-    Ok(())
-}
 
 fn push_bytes(out: &mut Vec<u8>, bytes: &Bytes) -> Result<(), NoMemory>
     ensures ok { OnOk result (out.new.items ≡ out.old.items ++ bytes_word bytes.now) }
@@ -97,7 +48,8 @@ fn push_deed(out: &mut Vec<u8>, deed: &Deed) -> Result<(), NoMemory>
 
 /// Appends the key of the deed and what was done, each behind a space.
 fn then_deed(out: &mut Vec<u8>, deed: &Deed) -> Result<(), NoMemory>
-    ensures ok { OnOk result (out.new.items ≡ out.old.items then key_word deed.now then deed_words deed.now) }
+    ensures ok { OnOk result (out.new.items ≡ out.old.items then key_word deed.now then
+        deed_words deed.now) }
     ensures err { OnErr result (Extends out.old.items out.new.items) }
 {
     push(out, b" ")?;
@@ -173,7 +125,8 @@ fn reply_has_bytes(reply: &Reply)
     }
 }
 
-/// Appends the first line of a journal whose first entry has this place. After `NoMemory` the buffer
+/// Appends the first line of a journal whose first entry has this place. After `NoMemory` the
+/// buffer
 /// holds what it held.
 pub fn write_head(out: &mut Vec<u8>, place: u64) -> Result<(), NoMemory>
     requires { PlaceFits place }

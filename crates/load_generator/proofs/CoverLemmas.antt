@@ -1,4 +1,5 @@
--- No more items expire in a legal history than requests stand in it: each that expires was there, and only a request makes one.
+-- No more items expire in a legal history than requests stand in it: each that expires was there,
+-- and only a request makes one.
 use Rattle.std.proofs.Common.{◌≡◌, ℕ, ◌+◌, ◌<◌, ◌≤◌, Bool, true, false, cond, List, [], ◌∷◌, ◌++◌, length, Option, Some, None, refl, sym, ap, ◌∙◌, arith, subst}
 use Rattle.std.specs.Prelude.{◌≢◌, ◌||◌}
 use Rattle.std.specs.List.{AllByRecursion}
@@ -26,28 +27,35 @@ abbrev without : List ℕ → List (List ℕ) → List (List ℕ)
 without key [] = []
 without key (k ∷ ks) = cond (bytes_eq key k) ks (k ∷ without key ks)
 
-length-without : (key : List ℕ) (ks : List (List ℕ)) → is_among key ks ≡ true → length (without key ks) + 1 ≡ length ks
+length-without : (key : List ℕ) (ks : List (List ℕ)) → is_among key ks ≡ true
+    → length (without key ks) + 1 ≡ length ks
 length-without key [] among = cc
 length-without key (k ∷ ks) among = by_test (bytes_eq key k) among (λ h. length-without key ks h)
   where
-    by_test : (b : Bool) → (b || is_among key ks) ≡ true → (is_among key ks ≡ true → length (without key ks) + 1 ≡ length ks)
+    by_test : (b : Bool) → (b || is_among key ks) ≡ true
+        → (is_among key ks ≡ true → length (without key ks) + 1 ≡ length ks)
         → length (cond b ks (k ∷ without key ks)) + 1 ≡ length (k ∷ ks)
     by_test true h rest = omega arith
     by_test false h rest = let fewer = rest h in omega (arith, fewer)
 
-among-without : (key other : List ℕ) (ks : List (List ℕ)) → bytes_eq other key ≡ false → is_among other ks ≡ true → is_among other (without key ks) ≡ true
+among-without : (key other : List ℕ) (ks : List (List ℕ)) → bytes_eq other key ≡ false
+    → is_among other ks ≡ true → is_among other (without key ks) ≡ true
 among-without key other [] apart among = cc
-among-without key other (k ∷ ks) apart among = by_test (bytes_eq key k) refl (λ h. among-without key other ks apart h)
+among-without key other (k ∷ ks) apart among =
+    by_test (bytes_eq key k) refl (λ h. among-without key other ks apart h)
   where
-    tail : (b : Bool) → (b || is_among other ks) ≡ true → (is_among other ks ≡ true → is_among other (without key ks) ≡ true)
+    tail : (b : Bool) → (b || is_among other ks) ≡ true
+        → (is_among other ks ≡ true → is_among other (without key ks) ≡ true)
         → (b || is_among other (without key ks)) ≡ true
     tail true h rest = refl
     tail false h rest = rest h
 
-    by_test : (b : Bool) → bytes_eq key k ≡ b → (is_among other ks ≡ true → is_among other (without key ks) ≡ true)
+    by_test : (b : Bool) → bytes_eq key k ≡ b
+        → (is_among other ks ≡ true → is_among other (without key ks) ≡ true)
         → is_among other (cond b ks (k ∷ without key ks)) ≡ true
     by_test true is rest =
-        let not_k : bytes_eq other k ≡ false = ap (bytes_eq other) (sym (bytes_eq-same key k is)) ∙ apart in
+        let not_k : bytes_eq other k ≡ false = ap (bytes_eq other) (sym (bytes_eq-same key k is))
+        ∙ apart in
         ap (λ b. b || is_among other ks) (sym not_k) ∙ among
     by_test false is rest = tail (bytes_eq other k) among rest
 
@@ -89,12 +97,15 @@ cond_some true x y none some = absurd (some (none refl))
 cond_some false x y none some = refl
 
 -- the keys with an item after an entry, of which those before are among ks
-covered : (items : List ℕ → Option Item) (ks : List (List ℕ)) (m : Marked) (deed : Deed) → m.1.deed ≡ deed → Covers ks items
+covered : (items : List ℕ → Option Item) (ks : List (List ℕ)) (m : Marked) (deed : Deed)
+    → m.1.deed ≡ deed → Covers ks items
     → ((key : List ℕ) → is_deed_of key deed ≡ true → DeedStands (items key) m.0 m.1.deed m.1)
-    → (ks' : List (List ℕ)) × Covers ks' (next_items items m) × (length ks' + expiries deed ≤ length ks + asks deed)
+    → (ks' : List (List ℕ)) × Covers ks' (next_items items m)
+    × (length ks' + expiries deed ≤ length ks + asks deed)
 covered items ks m (Asked request) is covers stands = (request.key ∷ ks, cover, omega arith)
   where
-    by_test : (key : List ℕ) (b : Bool) → is_deed_of key m.1.deed ≡ b → bytes_eq key request.key ≡ b → cond b (after_entry (items key) m) (items key) ≢ None
+    by_test : (key : List ℕ) (b : Bool) → is_deed_of key m.1.deed ≡ b → bytes_eq key request.key ≡ b
+        → cond b (after_entry (items key) m) (items key) ≢ None
         → (bytes_eq key request.key || is_among key ks) ≡ true
     by_test key true at same some = ap (λ b. b || is_among key ks) same
     by_test key false at same some = ap (λ b. b || is_among key ks) same ∙ covers key some
@@ -104,7 +115,8 @@ covered items ks m (Asked request) is covers stands = (request.key ∷ ks, cover
 covered items ks m (Expired gone) is covers stands = (without gone ks, cover, omega (arith, fewer))
   where
     there : items gone ≢ None
-    there = dead_is_there (items gone) m.1.moment (subst (λ d. DeedStands (items gone) m.0 d m.1) is (stands gone (bytes_eq-refl gone))).0
+    there = dead_is_there (items gone) m.1.moment
+        (subst (λ d. DeedStands (items gone) m.0 d m.1) is (stands gone (bytes_eq-refl gone))).0
 
     fewer : length (without gone ks) + 1 ≡ length ks
     fewer = length-without gone ks (covers gone there)
@@ -113,10 +125,13 @@ covered items ks m (Expired gone) is covers stands = (without gone ks, cover, om
     now_none key = ap (λ d. after_deed (items key) d m.1) is
 
     other : (key : List ℕ) → next_items items m key ≢ None → bytes_eq key gone ≡ false
-    other key some = sym (ap (is_deed_of key) is) ∙ cond_some (is_deed_of key m.1.deed) (after_entry (items key) m) (items key) (λ _. now_none key) some
+    other key some = sym (ap (is_deed_of key) is)
+        ∙ cond_some (is_deed_of key m.1.deed) (after_entry (items key) m) (items key)
+        (λ _. now_none key) some
 
     kept : (key : List ℕ) → bytes_eq key gone ≡ false → next_items items m key ≡ items key
-    kept key apart = ap (λ b. cond b (after_entry (items key) m) (items key)) (ap (is_deed_of key) is ∙ apart)
+    kept key apart = ap (λ b. cond b (after_entry (items key) m) (items key))
+        (ap (is_deed_of key) is ∙ apart)
 
     cover : Covers (without gone ks) (next_items items m)
     cover key some =
@@ -125,20 +140,25 @@ covered items ks m (Expired gone) is covers stands = (without gone ks, cover, om
 covered items ks m Looked is covers stands = (ks, cover, omega arith)
   where
     cover : Covers ks (next_items items m)
-    cover key some = covers key (λ none. some (ap (λ b. cond b (after_entry (items key) m) (items key)) (ap (is_deed_of key) is) ∙ none))
+    cover key some = covers key (λ none. some
+        (ap (λ b. cond b (after_entry (items key) m) (items key)) (ap (is_deed_of key) is) ∙ none))
 
-lead_on : (b : Bool) (item : Option Item) (m : Marked) (ms : List Marked) → Lead item (cond b (m ∷ ms) ms)
+lead_on : (b : Bool) (item : Option Item) (m : Marked) (ms : List Marked)
+    → Lead item (cond b (m ∷ ms) ms)
     → (b ≡ true → DeedStands item m.0 m.1.deed m.1) × Lead (cond b (after_entry item m) item) ms
 lead_on true item m ms lead = (λ _. lead.0, lead.1)
 lead_on false item m ms lead = (λ is. cc, lead)
 
 -- items that are covered by so many keys expire at most so often, and once more for each request
-few_expire : (items : List ℕ → Option Item) (ks : List (List ℕ)) (count : ℕ) (es : List Entry) → Covers ks items
-    → ((key : List ℕ) → Lead (items key) (entries_of key (marked count es))) → expired es ≤ length ks + asked es
+few_expire : (items : List ℕ → Option Item) (ks : List (List ℕ)) (count : ℕ) (es : List Entry)
+    → Covers ks items
+    → ((key : List ℕ) → Lead (items key) (entries_of key (marked count es)))
+    → expired es ≤ length ks + asked es
 few_expire items ks count [] covers leads = omega arith
 few_expire items ks count (e ∷ es) covers leads =
     let m : Marked = (has_risen count e.faults, e) in
-    let each = λ (key : List ℕ). lead_on (is_deed_of key e.deed) (items key) m (entries_of key (marked e.faults es)) (leads key) in
+    let each = λ (key : List ℕ). lead_on (is_deed_of key e.deed) (items key) m
+    (entries_of key (marked e.faults es)) (leads key) in
     let next = covered items ks m e.deed refl covers (λ key is. (each key).0 is) in
     let rest = few_expire (next_items items m) next.0 e.faults es next.1 (λ key. (each key).1) in
     omega (arith, next.2, rest)
@@ -165,7 +185,8 @@ removal_expires (Asked request) is = absurd is
 removal_expires (Expired key) is = (refl, refl)
 removal_expires Looked is = absurd is
 
-removals_expire : (es : List Entry) → AllByRecursion IsRemoval es → (asked es ≡ 0) × (expired es ≡ length es)
+removals_expire : (es : List Entry) → AllByRecursion IsRemoval es
+    → (asked es ≡ 0) × (expired es ≡ length es)
 removals_expire [] all = (refl, refl)
 removals_expire (e ∷ es) all =
     let one = removal_expires e.deed all.0.0 in
@@ -173,11 +194,15 @@ removals_expire (e ∷ es) all =
     (omega (arith, one.0, rest.0), omega (arith, one.1, rest.1))
 
 -- Over a keeper that tells its items no more are removed than requests were made.
-pub few_removed : (g : Generating) (requests removals : List Entry) (told : Option (List ℕ → Option Item)) → AreMade g 0 requests → AllByRecursion IsRemoval removals
-    → TellsAfter nothing 0 (requests ++ removals) told → length requests < length removals → told ≡ None
+pub few_removed : (g : Generating) (requests removals : List Entry)
+    (told : Option (List ℕ → Option Item)) → AreMade g 0 requests
+    → AllByRecursion IsRemoval removals
+    → TellsAfter nothing 0 (requests ++ removals) told → length requests < length removals
+    → told ≡ None
 few_removed g requests removals None made gone after more = refl
 few_removed g requests removals (Some items) made gone after more =
-    let bound = few_expire nothing [] 0 (requests ++ removals) (λ key some. absurd (some refl)) after.0.keys in
+    let bound = few_expire nothing [] 0 (requests ++ removals) (λ key some. absurd (some refl))
+    after.0.keys in
     let a = asked-append requests removals in
     let x = expired-append requests removals in
     let all_asked = made_are_asked g 0 requests made in

@@ -18,7 +18,8 @@ use Rattle.load_generator.proofs.LoadLemmas.{counts_text-is}
 use Rattle.load_generator.proofs.CoverLemmas.{few_removed}
 
 -- there was no memory for a request
-pub unfinished : (CanCount : ℕ → Type 0) (n seed : ℕ) (sink : Option (List ℕ)) (told : Option (List ℕ → Option Item)) (now : ℕ) (cookies : Counter) (list : List Entry)
+pub unfinished : (CanCount : ℕ → Type 0) (n seed : ℕ) (sink : Option (List ℕ))
+    (told : Option (List ℕ → Option Item)) (now : ℕ) (cookies : Counter) (list : List Entry)
     → HasAsked CanCount seed list told now cookies → IsLoad CanCount n seed sink sink told now 6
 unfinished CanCount n seed sink told now cookies list asked = record {
   requests = list;
@@ -27,7 +28,8 @@ unfinished CanCount n seed sink told now cookies list asked = record {
   made = asked.made;
   removed = tt;
   stands = subst (λ (l : List Entry). StandsFor nothing 0 l told now) (sym same) asked.desk.stands;
-  counts = subst (λ (l : List Entry). AllByRecursion (λ e. CanCount e.faults) l) (sym same) asked.desk.counts;
+  counts = subst (λ (l : List Entry). AllByRecursion (λ e. CanCount e.faults) l) (sym same)
+      asked.desk.counts;
   ends = inr (inr (refl, refl));
 }
   where
@@ -35,36 +37,58 @@ unfinished CanCount n seed sink told now cookies list asked = record {
     same = append-nil (list ++ []) ∙ append-nil list
 
 -- all requests were made, and the sweep too
-pub finished : (CanCount : ℕ → Type 0) (n seed removed status : ℕ) (sink sink' : Option (List ℕ)) (told : Option (List ℕ → Option Item)) (now : ℕ) (cookies : Counter) (counts : Counts) (list : List Entry)
-    → (made : (told' : Option (List ℕ → Option Item)) × (now' : ℕ) × (cookies' : Counter) × HasAsked CanCount seed list told' now' cookies') → length list ≡ n → CountsAre counts list
+pub finished : (CanCount : ℕ → Type 0) (n seed removed status : ℕ) (sink sink' : Option (List ℕ))
+    (told : Option (List ℕ → Option Item)) (now : ℕ) (cookies : Counter) (counts : Counts)
+    (list : List Entry)
+    → (made : (told' : Option (List ℕ → Option Item)) × (now' : ℕ) × (cookies' : Counter)
+    × HasAsked CanCount seed list told' now' cookies') → length list ≡ n → CountsAre counts list
     → Sweeps CanCount 1 (n + 1) list told now cookies removed
     → WritesCounts status sink sink' (counts_text n counts removed)
     → IsLoad CanCount n seed sink sink' told now status
-finished CanCount n seed removed status sink sink' told now cookies counts list made all are swept writes = record {
-  requests = list;
-  removals = swept.removals;
-  looks = swept.looks;
-  made = made.3.made;
-  removed = swept.expired;
-  stands = swept.desk.stands;
-  counts = swept.desk.counts;
-  ends = by_status writes;
-}
+finished CanCount n seed removed status sink sink' told now cookies counts list made all are swept
+    writes = record {
+      requests = list;
+      removals = swept.removals;
+      looks = swept.looks;
+      made = made.3.made;
+      removed = swept.expired;
+      stands = swept.desk.stands;
+      counts = swept.desk.counts;
+      ends = by_status writes;
+    }
   where
     text : counts_text n counts removed ≡ load_text list swept.removals
     text =
-        ap (λ k. counts_text k counts removed) (sym all) ∙ ap (counts_text (length list) counts) (sym swept.counted) ∙ counts_text-is counts list swept.removals are
+        ap (λ k. counts_text k counts removed) (sym all)
+        ∙ ap (counts_text (length list) counts) (sym swept.counted)
+        ∙ counts_text-is counts list swept.removals are
 
-    by_looks : ((swept.looks ≡ []) × (removed ≡ n + 1)) ⊎ EndsSweep told swept.looks → EndsSweep told swept.looks
+    by_looks : ((swept.looks ≡ []) × (removed ≡ n + 1)) ⊎ EndsSweep told swept.looks
+        → EndsSweep told swept.looks
     by_looks (inl none) =
         let counted = swept.counted in
         subst (λ (l : List Entry). EndsSweep told l) (sym none.0)
         (few_removed (seeded seed) list swept.removals told made.3.made swept.expired
-        (subst (λ (l : List Entry). StandsFor nothing 0 l told now) (ap (λ (l : List Entry). list ++ swept.removals ++ l) none.0 ∙ append-nil (list ++ swept.removals)) swept.desk.stands).told_is
+        (subst (λ (l : List Entry). StandsFor nothing 0 l told now)
+        (ap (λ (l : List Entry). list ++ swept.removals ++ l) none.0
+        ∙ append-nil (list ++ swept.removals)) swept.desk.stands).told_is
         (omega (arith, counted, none.1, all)))
     by_looks (inr ends) = ends
 
-    by_status : WritesCounts status sink sink' (counts_text n counts removed) → EndsLoad n status sink sink' told list swept.removals swept.looks
-    by_status (inl whole) = inl (whole.0, all, by_looks swept.ends, subst (Takes sink sink') text whole.1)
-    by_status (inr (inl front)) = inr (inl (front.0, all, by_looks swept.ends, subst (TakesFront sink sink') text front.1))
+    by_status : WritesCounts status sink sink' (counts_text n counts removed)
+        → EndsLoad n status sink sink' told list swept.removals swept.looks
+    by_status (inl whole) = inl (
+      whole.0,
+      all,
+      by_looks swept.ends,
+      subst (Takes sink sink') text
+          whole.1,
+    )
+    by_status (inr (inl front)) = inr (inl (
+      front.0,
+      all,
+      by_looks swept.ends,
+      subst
+          (TakesFront sink sink') text front.1,
+    ))
     by_status (inr (inr none)) = inr (inr (none.0, none.1))

@@ -16,7 +16,8 @@ use Rattle.load_generator.specs.Run.{IsRemoval, EndsSweep}
 use Rattle.load_generator.specs.Steps.{Removes, Sweeps}
 
 -- a look that removed no item ends the sweep
-pub look_ends : (told : Option (List ℕ → Option Item)) (s : Swept) (faults : ℕ) → IsUnmoved s → (s ≡ swept.Nothing → TellsDue told last_moment None)
+pub look_ends : (told : Option (List ℕ → Option Item)) (s : Swept) (faults : ℕ) → IsUnmoved s
+    → (s ≡ swept.Nothing → TellsDue told last_moment None)
     → EndsSweep told (swept_entry 0 last_moment s faults ∷ [])
 look_ends told (swept.Removed key) faults unmoved none = absurd unmoved
 look_ends told swept.Nothing faults unmoved none = ((refl, refl, refl), λ done. none refl)
@@ -30,53 +31,71 @@ not_removed swept.Nothing other = tt
 not_removed swept.KeeperFault other = tt
 not_removed swept.NoMemory other = tt
 
-pub Removes-none : (CanCount : ℕ → Type 0) (first : ℕ) (list : List Entry) (told : Option (List ℕ → Option Item)) (now : ℕ) (cookies : Counter)
-    → DeskStandsFor CanCount first nothing 0 list told now cookies → Removes CanCount first list told now cookies 0
+pub Removes-none : (CanCount : ℕ → Type 0) (first : ℕ) (list : List Entry)
+    (told : Option (List ℕ → Option Item)) (now : ℕ) (cookies : Counter)
+    → DeskStandsFor CanCount first nothing 0 list told now cookies
+    → Removes CanCount first list told now cookies 0
 Removes-none CanCount first list told now cookies stand = record {
   removals = [];
   expired = tt;
   counted = refl;
-  desk = subst (λ (l : List Entry). DeskStandsFor CanCount first nothing 0 l told now cookies) (sym (append-nil list)) stand;
+  desk = subst (λ (l : List Entry). DeskStandsFor CanCount first nothing 0 l told now cookies)
+      (sym (append-nil list)) stand;
 }
 
-pub Removes-push : (CanCount : ℕ → Type 0) (first : ℕ) (list : List Entry) (told told' : Option (List ℕ → Option Item)) (now now' : ℕ) (cookies cookies' : Counter) (removed : ℕ) (key : List ℕ)
+pub Removes-push : (CanCount : ℕ → Type 0) (first : ℕ) (list : List Entry)
+    (told told' : Option (List ℕ → Option Item)) (now now' : ℕ) (cookies cookies' : Counter)
+    (removed : ℕ) (key : List ℕ)
     → (before : Removes CanCount first list told now cookies removed)
-    → DeskStandsFor CanCount first nothing 0 ((list ++ before.removals) ++ swept_entry 0 last_moment (swept.Removed key) now' ∷ []) told' now' cookies'
+    → DeskStandsFor CanCount first nothing 0 ((list ++ before.removals)
+    ++ swept_entry 0 last_moment (swept.Removed key) now' ∷ []) told' now' cookies'
     → Removes CanCount first list told' now' cookies' (removed + 1)
-Removes-push CanCount first list told told' now now' cookies cookies' removed key before stand = record {
-  removals = before.removals ++ entry ∷ [];
-  expired = All-push IsRemoval before.removals entry before.expired (tt, refl, refl);
-  counted = let so_far = before.counted in let more = length-append before.removals (entry ∷ []) in omega (arith, so_far, more);
-  desk = subst (λ (l : List Entry). DeskStandsFor CanCount first nothing 0 l told' now' cookies') (append_assoc list before.removals (entry ∷ [])) stand;
-}
+Removes-push CanCount first list told told' now now' cookies cookies' removed key before stand =
+    record {
+      removals = before.removals ++ entry ∷ [];
+      expired = All-push IsRemoval before.removals entry before.expired (tt, refl, refl);
+      counted = let so_far = before.counted in let more =
+          length-append before.removals (entry ∷ []) in
+          omega (arith, so_far, more);
+      desk = subst (λ (l : List Entry). DeskStandsFor CanCount first nothing 0 l told' now'
+          cookies')
+          (append_assoc list before.removals (entry ∷ [])) stand;
+    }
   where
     entry : Entry
     entry = swept_entry 0 last_moment (swept.Removed key) now'
 
-pub Sweeps-look : (CanCount : ℕ → Type 0) (first most : ℕ) (list : List Entry) (told told' : Option (List ℕ → Option Item)) (now now' : ℕ) (cookies cookies' : Counter) (removed : ℕ) (s : Swept)
+pub Sweeps-look : (CanCount : ℕ → Type 0) (first most : ℕ) (list : List Entry)
+    (told told' : Option (List ℕ → Option Item)) (now now' : ℕ) (cookies cookies' : Counter)
+    (removed : ℕ) (s : Swept)
     → (before : Removes CanCount first list told now cookies removed)
-    → DeskStandsFor CanCount first nothing 0 ((list ++ before.removals) ++ swept_entry 0 last_moment s now' ∷ []) told' now' cookies'
+    → DeskStandsFor CanCount first nothing 0 ((list ++ before.removals)
+    ++ swept_entry 0 last_moment s now' ∷ []) told' now' cookies'
     → IsUnmoved s → (s ≡ swept.Nothing → TellsDue told' last_moment None)
     → Sweeps CanCount first most list told' now' cookies' removed
-Sweeps-look CanCount first most list told told' now now' cookies cookies' removed s before stand unmoved none = record {
-  removals = before.removals;
-  looks = entry ∷ [];
-  expired = before.expired;
-  counted = before.counted;
-  desk = stand;
-  ends = inr (look_ends told' s now' unmoved none);
-}
+Sweeps-look CanCount first most list told told' now now' cookies cookies' removed s before stand
+    unmoved none = record {
+      removals = before.removals;
+      looks = entry ∷ [];
+      expired = before.expired;
+      counted = before.counted;
+      desk = stand;
+      ends = inr (look_ends told' s now' unmoved none);
+    }
   where
     entry : Entry
     entry = swept_entry 0 last_moment s now'
 
-pub Sweeps-all : (CanCount : ℕ → Type 0) (first most : ℕ) (list : List Entry) (told : Option (List ℕ → Option Item)) (now : ℕ) (cookies : Counter) (removed : ℕ)
-    → (before : Removes CanCount first list told now cookies removed) → removed ≡ most → Sweeps CanCount first most list told now cookies removed
+pub Sweeps-all : (CanCount : ℕ → Type 0) (first most : ℕ) (list : List Entry)
+    (told : Option (List ℕ → Option Item)) (now : ℕ) (cookies : Counter) (removed : ℕ)
+    → (before : Removes CanCount first list told now cookies removed) → removed ≡ most
+    → Sweeps CanCount first most list told now cookies removed
 Sweeps-all CanCount first most list told now cookies removed before all = record {
   removals = before.removals;
   looks = [];
   expired = before.expired;
   counted = before.counted;
-  desk = subst (λ (l : List Entry). DeskStandsFor CanCount first nothing 0 l told now cookies) (sym (append-nil (list ++ before.removals))) before.desk;
+  desk = subst (λ (l : List Entry). DeskStandsFor CanCount first nothing 0 l told now cookies)
+      (sym (append-nil (list ++ before.removals))) before.desk;
   ends = inl (refl, all);
 }

@@ -43,5 +43,7 @@ counted counts replies.PlacesOut = counts
 abbrev pub counts_text : ℕ → Counts → ℕ → List ℕ
 counts_text requests counts removed =
     [] and (codes "requests", requests) and (codes "200", counts.ok) and (codes "400", counts.bad)
-    and (codes "404", counts.missing) and (codes "423", counts.locked) and (codes "500", counts.faults)
-    and (codes "503", counts.no_memory) and (codes "507", counts.cookies_out) and (codes "removed", removed)
+    and (codes "404", counts.missing) and (codes "423", counts.locked) and
+    (codes "500", counts.faults)
+    and (codes "503", counts.no_memory) and (codes "507", counts.cookies_out) and
+    (codes "removed", removed)

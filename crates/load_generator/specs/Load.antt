@@ -1,4 +1,5 @@
--- The load generator: the requests that it makes, one after the other, by its numbers and by the latest grant.
+-- The load generator: the requests that it makes, one after the other, by its numbers and by the
+-- latest grant.
 use Rattle.std.specs.Prelude.{◌≡◌, ℕ, ◌+◌, ◌*◌, ◌/◌, ◌%◌, ◌==◌, List, [], ◌∷◌, ◌++◌, codes, decimal, Option, Some, None, false, ⊤, if◌then◌else◌}
 use Rattle.asp_messages.specs.declared.request.Request.{Request}
 use Rattle.asp_messages.specs.declared.request.Ask.{Ask}
@@ -84,7 +85,8 @@ next_moment g = (g.made + 1) * 1000
 
 -- the latest grant after a request was answered
 abbrev pub grant_after : Option Granted → List ℕ → Ask → Reply → Option Granted
-grant_after grant key Acquire (Found body minutes (Some cookie) first) = Some (record { key = key; cookie = cookie })
+grant_after grant key Acquire (Found body minutes (Some cookie) first) =
+    Some (record { key = key; cookie = cookie })
 grant_after grant key ask reply = grant
 
 -- the generator after its next request was answered
@@ -97,12 +99,14 @@ answered g reply = record {
 
 -- ---- the entries
 
--- The entries are those of a generator's requests from here on, in order, where j cookies have been drawn: caller 0, each at its moment,
+-- The entries are those of a generator's requests from here on, in order, where j cookies have been
+-- drawn: caller 0, each at its moment,
 -- and each acquire draws the next cookie, from 1 on.
 abbrev pub AreMade : Generating → ℕ → List Entry → Type 0
 AreMade g j [] = ⊤
 AreMade g j (e ∷ es) =
-    (e.caller ≡ 0) × (e.moment ≡ next_moment g) × (e.deed ≡ Asked (next_request g)) × (e.drawn ≡ draw_of 1 most_cookie j (next_request g).ask)
+    (e.caller ≡ 0) × (e.moment ≡ next_moment g) × (e.deed ≡ Asked (next_request g))
+    × (e.drawn ≡ draw_of 1 most_cookie j (next_request g).ask)
     × AreMade (answered g e.reply) (j + draws (next_request g).ask) es
 
 -- the generator after these entries

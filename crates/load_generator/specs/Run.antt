@@ -30,7 +30,8 @@ IsRemoval e = IsExpiry e.deed × (e.caller ≡ 0) × (e.moment ≡ last_moment)
 abbrev pub IsLook : Entry → Type 0
 IsLook e = (e.deed ≡ Looked) × (e.caller ≡ 0) × (e.moment ≡ last_moment)
 
--- The last look of a sweep: it was answered `Done` only where no item is due after it. Over a keeper that does not tell its items there may be none.
+-- The last look of a sweep: it was answered `Done` only where no item is due after it. Over a
+-- keeper that does not tell its items there may be none.
 abbrev pub EndsSweep : Option (List ℕ → Option Item) → List Entry → Type 0
 EndsSweep told [] = told ≡ None
 EndsSweep told (e ∷ []) = IsLook e × (e.reply ≡ Done → TellsDue told last_moment None)
@@ -47,25 +48,36 @@ infixl 5 ◌and◌
 abbrev pub ◌and◌ : List ℕ → List ℕ × ℕ → List ℕ
 text and counted = text ++ (counted.0 ++ codes " " ++ decimal counted.1 ++ codes "\n")
 
--- what a load writes: how many requests it made, the replies by their status, and how many items expired at its end
+-- what a load writes: how many requests it made, the replies by their status, and how many items
+-- expired at its end
 unfoldable pub load_text : List Entry → List Entry → List ℕ
 load_text requests removals =
-    [] and (codes "requests", length requests) and (codes "200", count_of 200 requests) and (codes "400", count_of 400 requests)
-    and (codes "404", count_of 404 requests) and (codes "423", count_of 423 requests) and (codes "500", count_of 500 requests)
-    and (codes "503", count_of 503 requests) and (codes "507", count_of 507 requests) and (codes "removed", length removals)
+    [] and (codes "requests", length requests) and (codes "200", count_of 200 requests) and
+    (codes "400", count_of 400 requests)
+    and (codes "404", count_of 404 requests) and (codes "423", count_of 423 requests) and
+    (codes "500", count_of 500 requests)
+    and (codes "503", count_of 503 requests) and (codes "507", count_of 507 requests) and
+    (codes "removed", length removals)
 
 -- ---- the run
 
--- The text was written on status 0, and a front of it on status 5; on status 6 nothing was written, and requests may be missing.
-abbrev pub EndsLoad : ℕ → ℕ → Option (List ℕ) → Option (List ℕ) → Option (List ℕ → Option Item) → List Entry → List Entry → List Entry → Type 0
+-- The text was written on status 0, and a front of it on status 5; on status 6 nothing was written,
+-- and requests may be missing.
+abbrev pub EndsLoad : ℕ → ℕ → Option (List ℕ) → Option (List ℕ) → Option (List ℕ → Option Item)
+    → List Entry → List Entry → List Entry → Type 0
 EndsLoad n status sink sink' told requests removals looks =
-    ((status ≡ 0) × (length requests ≡ n) × EndsSweep told looks × Takes sink sink' (load_text requests removals))
-    ⊎ (((status ≡ 5) × (length requests ≡ n) × EndsSweep told looks × TakesFront sink sink' (load_text requests removals))
+    ((status ≡ 0) × (length requests ≡ n) × EndsSweep told looks
+    × Takes sink sink' (load_text requests removals))
+    ⊎ (((status ≡ 5) × (length requests ≡ n) × EndsSweep told looks
+    × TakesFront sink sink' (load_text requests removals))
     ⊎ ((status ≡ 6) × (sink' ≡ sink)))
 
--- A load of n requests: the requests by the generator's numbers, then items that expired, and a last look. The keeper that is handed back has the items
--- and the count after these entries. (CanCount says which counts of faults the keeper's type can have; told and faults are what the keeper tells and counts then.)
-pub record IsLoad (CanCount : ℕ → Type 0) (n seed : ℕ) (sink sink' : Option (List ℕ)) (told : Option (List ℕ → Option Item)) (faults status : ℕ) : Type 0 where
+-- A load of n requests: the requests by the generator's numbers, then items that expired, and a
+-- last look. The keeper that is handed back has the items
+-- and the count after these entries. (CanCount says which counts of faults the keeper's type can
+-- have; told and faults are what the keeper tells and counts then.)
+pub record IsLoad (CanCount : ℕ → Type 0) (n seed : ℕ) (sink sink' : Option (List ℕ))
+    (told : Option (List ℕ → Option Item)) (faults status : ℕ) : Type 0 where
   pub requests : List Entry
   pub removals : List Entry
   pub looks : List Entry

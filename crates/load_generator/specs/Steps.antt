@@ -10,12 +10,16 @@ use Rattle.load_generator.specs.Load.{AreMade, seeded}
 use Rattle.load_generator.specs.Run.{IsRemoval, EndsSweep}
 
 -- The desk stands for these requests of the load.
-pub record HasAsked (CanCount : ℕ → Type 0) (seed : ℕ) (requests : List Entry) (told : Option (List ℕ → Option Item)) (now : ℕ) (cookies : Counter) : Type 0 where
+pub record HasAsked (CanCount : ℕ → Type 0) (seed : ℕ) (requests : List Entry)
+    (told : Option (List ℕ → Option Item)) (now : ℕ) (cookies : Counter) : Type 0 where
   pub made : AreMade (seeded seed) 0 requests
   pub desk : DeskStandsFor CanCount 1 nothing 0 requests told now cookies
 
--- So many items were removed behind a history, and then a look removed none, or all the looks that may be made removed one.
-pub record Sweeps (CanCount : ℕ → Type 0) (first most : ℕ) (list : List Entry) (told : Option (List ℕ → Option Item)) (now : ℕ) (cookies : Counter) (removed : ℕ) : Type 0 where
+-- So many items were removed behind a history, and then a look removed none, or all the looks that
+-- may be made removed one.
+pub record Sweeps (CanCount : ℕ → Type 0) (first most : ℕ) (list : List Entry)
+    (told : Option (List ℕ → Option Item)) (now : ℕ) (cookies : Counter) (removed : ℕ) : Type
+    0 where
   pub removals : List Entry
   pub looks : List Entry
   pub expired : AllByRecursion IsRemoval removals
@@ -24,7 +28,9 @@ pub record Sweeps (CanCount : ℕ → Type 0) (first most : ℕ) (list : List En
   pub ends : ((looks ≡ []) × (removed ≡ most)) ⊎ EndsSweep told looks
 
 -- so many items were removed behind a history
-pub record Removes (CanCount : ℕ → Type 0) (first : ℕ) (list : List Entry) (told : Option (List ℕ → Option Item)) (now : ℕ) (cookies : Counter) (removed : ℕ) : Type 0 where
+pub record Removes (CanCount : ℕ → Type 0) (first : ℕ) (list : List Entry)
+    (told : Option (List ℕ → Option Item)) (now : ℕ) (cookies : Counter) (removed : ℕ) : Type
+    0 where
   pub removals : List Entry
   pub expired : AllByRecursion IsRemoval removals
   pub counted : length removals ≡ removed

@@ -111,7 +111,8 @@ fn named_write(
     drawn: u64,
     grant: &Option<Grant>,
 ) -> Result<Request, NoMemory>
-    ensures request { IfOk result (λ request. request ≡ named_write k (numbered_key drawn) grant.now) }
+    ensures request { IfOk result (λ request. request
+        ≡ named_write k (numbered_key drawn) grant.now) }
     ensures fits { IfOk result RequestFits }
 {
     match grant {
@@ -134,7 +135,8 @@ fn request_of(
     drawn: u64,
     grant: &Option<Grant>,
 ) -> Result<Request, NoMemory>
-    ensures request { IfOk result (λ request. request ≡ request_of kind k (numbered_key drawn) grant.now) }
+    ensures request { IfOk result (λ request. request
+        ≡ request_of kind k (numbered_key drawn) grant.now) }
     ensures fits { IfOk result RequestFits }
 {
     match kind {

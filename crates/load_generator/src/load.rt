@@ -33,9 +33,11 @@ pub struct Load {
 /// Makes each request of the load and counts its reply.
 fn ask_all<K: Keeper>(alloc: Global, load: Load, desk: &mut Desk<K>) -> Result<Counts, NoMemory>
     requires load { LoadFits load }
-    requires desk { HasAsked K.can_count load.seed [] (K.told desk.old.keeper) (K.count desk.old.keeper) desk.old.cookies }
+    requires desk { HasAsked K.can_count load.seed [] (K.told desk.old.keeper)
+        (K.count desk.old.keeper) desk.old.cookies }
     requires last { desk.old.cookies.last ≡ most_cookie }
-    ensures asked { (list : List Entry) × HasAsked K.can_count load.seed list (K.told desk.new.keeper) (K.count desk.new.keeper) desk.new.cookies
+    ensures asked { (list : List Entry) × HasAsked K.can_count load.seed list
+        (K.told desk.new.keeper) (K.count desk.new.keeper) desk.new.cookies
         × IfOk result (λ counts. (length list ≡ load.requests) × CountsAre counts list) }
     ensures floor { K.floor desk.new.keeper ≡ K.floor desk.old.keeper }
 {
@@ -50,7 +52,8 @@ fn ask_all<K: Keeper>(alloc: Global, load: Load, desk: &mut Desk<K>) -> Result<C
     Ok(counts)
 }
 
-/// Writes what was counted, and answers a status: 0, 5 where the sink failed, or 6 where there was no
+/// Writes what was counted, and answers a status: 0, 5 where the sink failed, or 6 where there was
+/// no
 /// memory for the text and nothing was written.
 fn write_counts<T: Sink>(
     alloc: Global,
@@ -59,7 +62,8 @@ fn write_counts<T: Sink>(
     removed: u64,
     sink: &mut T,
 ) -> u8
-    ensures writes { WritesCounts result (T.taken sink.old) (T.taken sink.new) (counts_text requests counts removed) }
+    ensures writes { WritesCounts result (T.taken sink.old) (T.taken sink.new)
+        (counts_text requests counts removed) }
     ensures fault { result ≡ 5 → Rose (T.faults sink.old) (T.faults sink.new) }
 {
     let Ok(text) = counts.text(alloc, requests, removed) else {
@@ -71,7 +75,8 @@ fn write_counts<T: Sink>(
     }
 }
 
-/// Makes the requests of a load over the keeper, sweeps at the latest moment, writes the counts, and
+/// Makes the requests of a load over the keeper, sweeps at the latest moment, writes the counts,
+/// and
 /// hands the keeper back. It reads nothing, waits for nobody, and returns.
 ///
 /// The status is 0; 5 where the sink failed; 6 where memory was wanting, and then nothing was
@@ -80,7 +85,8 @@ pub fn run_load<T: Sink, K: Keeper>(alloc: Global, load: Load, sink: &mut T, kee
     requires load { LoadFits load }
     requires no_faults { K.count keeper ≡ 0 }
     requires empty { IsEmptyTold (K.told keeper) }
-    ensures load { IsLoad K.can_count load.requests load.seed (T.taken sink.old) (T.taken sink.new) (K.told result.keeper) (K.count result.keeper) result.status }
+    ensures load { IsLoad K.can_count load.requests load.seed (T.taken sink.old) (T.taken sink.new)
+        (K.told result.keeper) (K.count result.keeper) result.status }
     ensures write { result.status ≡ 5 → Rose (T.faults sink.old) (T.faults sink.new) }
     ensures floor { K.floor result.keeper ≡ K.floor keeper }
 {

@@ -10,12 +10,16 @@ use desk::Desk;
 use keeper::Keeper;
 use shard_core::Swept;
 
-/// Removes the items that have expired at the latest moment by at most `most` looks, and answers how
+/// Removes the items that have expired at the latest moment by at most `most` looks, and answers
+/// how
 /// many were removed.
 pub fn sweep<K: Keeper>(desk: &mut Desk<K>, most: u64) -> u64
     requires { 0 < desk.old.cookies.next }
-    ensures sweeps { (first : ℕ) (list : List Entry) → DeskStandsFor K.can_count first nothing 0 list (K.told desk.old.keeper) (K.count desk.old.keeper) desk.old.cookies
-        → Sweeps K.can_count first most list (K.told desk.new.keeper) (K.count desk.new.keeper) desk.new.cookies result }
+    ensures sweeps { (first : ℕ) (list : List Entry)
+        → DeskStandsFor K.can_count first nothing 0 list (K.told desk.old.keeper)
+        (K.count desk.old.keeper) desk.old.cookies
+        → Sweeps K.can_count first most list (K.told desk.new.keeper) (K.count desk.new.keeper)
+        desk.new.cookies result }
     ensures floor { K.floor desk.new.keeper ≡ K.floor desk.old.keeper }
 {
     let mut removed = 0;

@@ -1,5 +1,7 @@
--- When a lock is in force: as long as it was granted, was not ended since, and has not run out with its item's timeout. This is
--- read off what was asked, what was answered and at which moments. A lock is known by its cookie; moments are milliseconds.
+-- When a lock is in force: as long as it was granted, was not ended since, and has not run out with
+-- its item's timeout. This is
+-- read off what was asked, what was answered and at which moments. A lock is known by its cookie;
+-- moments are milliseconds.
 use Rattle.std.specs.Prelude.{◌≡◌, ℕ, ◌+◌, ◌*◌, ◌<◌, max, List, [], ◌∷◌, ◌++◌, filter, Option, Some, None, Bool, true, false, not, ◌&&◌, ◌||◌, nat_le, ◌==◌, if◌then◌else◌, IsFalse, ⊤}
 use Rattle.asp_messages.specs.declared.request.Ask.{Ask}
 use Rattle.asp_messages.specs.declared.request.Ask.TheVariants.{Release, Write, Remove, Reset}
@@ -26,27 +28,35 @@ pub record Grant : Type 0 where
 
 -- a reply grants a lock where it comes with a cookie
 abbrev pub granted : Reply → Option Grant
-granted (Found body minutes (Some cookie) first) = Some (record { cookie = cookie; body = body; minutes = minutes })
+granted (Found body minutes (Some cookie) first) =
+    Some (record { cookie = cookie; body = body; minutes = minutes })
 granted reply = None
 
 -- an item that is under a lock stands for the grant of that lock
 abbrev pub grant_under : Option Hold → Item → Option Grant
 grant_under None item = None
-grant_under (Some hold) item = Some (record { cookie = hold.cookie; body = item.body; minutes = item.minutes })
+grant_under (Some hold) item = Some (record {
+  cookie = hold.cookie;
+  body = item.body;
+  minutes =
+      item.minutes;
+})
 
 -- the grant that an item stands for
 abbrev pub grant_of : Option Item → Option Grant
 grant_of None = None
 grant_of (Some item) = grant_under item.holder item
 
--- the grant with which the entries end: that of the last one, where it is on the key; before the first entry that of the key's item
+-- the grant with which the entries end: that of the last one, where it is on the key; before the
+-- first entry that of the key's item
 abbrev pub last_grant : (List ℕ → Option Item) → List ℕ → List Entry → Option Grant
 last_grant opening key [] = grant_of (opening key)
 last_grant opening key (e ∷ []) = if is_deed_of key e.deed then granted e.reply else None
 last_grant opening key (e ∷ f ∷ es) = last_grant opening key (f ∷ es)
 
 -- The key's lock was granted so: the entries are those up to the grant, and those since.
-pub record IsGranted (opening : List ℕ → Option Item) (key : List ℕ) (grant : Grant) (before until since : List Entry) : Type 0 where
+pub record IsGranted (opening : List ℕ → Option Item) (key : List ℕ) (grant : Grant)
+    (before until since : List Entry) : Type 0 where
   pub parts : before ≡ until ++ since
   pub granted : last_grant opening key until ≡ Some grant
 
@@ -97,14 +107,18 @@ is_refused KeeperFault = true
 is_refused CookiesOut = true
 is_refused reply = false
 
--- the entry ends the lock of the cookie: it gives it up; or it comes at the moment out, when the lock has run out, or later, and is not refused
+-- the entry ends the lock of the cookie: it gives it up; or it comes at the moment out, when the
+-- lock has run out, or later, and is not refused
 abbrev pub ends : ℕ → ℕ → Entry → Bool
-ends cookie out e = is_given_up cookie e.deed e.reply || (nat_le out e.moment && not (is_refused e.reply))
+ends cookie out e = is_given_up cookie e.deed e.reply
+    || (nat_le out e.moment && not (is_refused e.reply))
 
--- no entry since the grant ends it, where its item was last touched at the moment touched before them
+-- no entry since the grant ends it, where its item was last touched at the moment touched before
+-- them
 abbrev pub Lasts : Grant → ℕ → List Entry → Type 0
 Lasts grant touched [] = ⊤
-Lasts grant touched (e ∷ es) = IsFalse (ends grant.cookie (runs_out grant touched) e) × Lasts grant (touched_by touched e) es
+Lasts grant touched (e ∷ es) = IsFalse (ends grant.cookie (runs_out grant touched) e)
+    × Lasts grant (touched_by touched e) es
 
 -- ---- in force
 
@@ -113,13 +127,16 @@ abbrev pub touched_of : Option Item → ℕ
 touched_of None = 0
 touched_of (Some item) = item.touched
 
--- The lock of the cookie is in force for the key at a moment behind the entries before: it was granted, no entry of the key
+-- The lock of the cookie is in force for the key at a moment behind the entries before: it was
+-- granted, no entry of the key
 -- since then has ended it, and it has not run out.
-pub record IsInForce (opening : List ℕ → Option Item) (count : ℕ) (key : List ℕ) (cookie : ℕ) (before : List Entry) (moment : ℕ) : Type 0 where
+pub record IsInForce (opening : List ℕ → Option Item) (count : ℕ) (key : List ℕ) (cookie : ℕ)
+    (before : List Entry) (moment : ℕ) : Type 0 where
   pub grant : Grant
   pub until : List Entry
   pub since : List Entry
   pub place : IsGranted opening key grant before until since
   pub by_cookie : grant.cookie ≡ cookie
   pub lasts : Lasts grant (touched_of (item_after opening count until key)) (on_key key since)
-  pub in_time : moment < runs_out grant (last_touch (touched_of (item_after opening count until key)) (on_key key since))
+  pub in_time : moment < runs_out grant (last_touch
+      (touched_of (item_after opening count until key)) (on_key key since))

@@ -16,7 +16,8 @@ use Rattle.lock_laws.specs.InForce.{Grant, granted, IsGranted, IsInForce}
 -- ---- the words of the laws
 
 -- At this place of the list, behind the entries before, stands the entry, and it is on the key.
-pub record StandsAt (list : List Entry) (key : List ℕ) (before : List Entry) (e : Entry) : Type 0 where
+pub record StandsAt (list : List Entry) (key : List ℕ) (before : List Entry) (e : Entry) : Type
+    0 where
   pub behind : List Entry
   pub place : list ≡ before ++ e ∷ behind
   pub on_key : IsTrue (is_deed_of key e.deed)
@@ -48,10 +49,12 @@ abbrev pub is_asked : (Ask → Bool) → Deed → Bool
 is_asked kind (Asked request) = kind request.ask
 is_asked kind deed = false
 
--- The entry acts: what a request would find at its moment differs after it from what it found. To clear an expired item away is no act.
+-- The entry acts: what a request would find at its moment differs after it from what it found. To
+-- clear an expired item away is no act.
 abbrev pub Acts : (List ℕ → Option Item) → ℕ → List ℕ → List Entry → Entry → Type 0
 Acts opening count key before e =
-    seen (item_after opening count (before ++ e ∷ []) key) e.moment ≢ seen (item_after opening count before key) e.moment
+    seen (item_after opening count (before ++ e ∷ []) key) e.moment
+    ≢ seen (item_after opening count before key) e.moment
 
 -- what was asked is done, or nothing was, for want of memory or a fault of the keeper
 abbrev pub IsAnsweredUnderLock : Reply → Type 0
@@ -78,59 +81,80 @@ is_content_ask ask = false
 
 -- ---- the laws
 
--- A request that names a cookie acts only where that lock is in force: a stale cookie changes nothing.
+-- A request that names a cookie acts only where that lock is in force: a stale cookie changes
+-- nothing.
 abbrev pub ActsOnlyInForce : (List ℕ → Option Item) → ℕ → List Entry → Type 0
 ActsOnlyInForce opening count list =
     (key : List ℕ) (before : List Entry) (e : Entry) (cookie : ℕ) → StandsAt list key before e
-    → named_by e.deed ≡ Some cookie → Acts opening count key before e → IsInForce opening count key cookie before e.moment
+    → named_by e.deed ≡ Some cookie → Acts opening count key before e
+    → IsInForce opening count key cookie before e.moment
 
--- A request that names a cookie whose lock is in force is done, or answered that nothing was for want of memory or a fault.
+-- A request that names a cookie whose lock is in force is done, or answered that nothing was for
+-- want of memory or a fault.
 abbrev pub InForceIsDone : (List ℕ → Option Item) → ℕ → List Entry → Type 0
 InForceIsDone opening count list =
     (key : List ℕ) (before : List Entry) (e : Entry) (cookie : ℕ) → StandsAt list key before e
-    → named_by e.deed ≡ Some cookie → IsInForce opening count key cookie before e.moment → IsAnsweredUnderLock e.reply
+    → named_by e.deed ≡ Some cookie → IsInForce opening count key cookie before e.moment
+    → IsAnsweredUnderLock e.reply
 
--- A write that names a cookie and acts finds the content and the minutes that were granted with it: no update is lost.
+-- A write that names a cookie and acts finds the content and the minutes that were granted with it:
+-- no update is lost.
 abbrev pub NoUpdateIsLost : (List ℕ → Option Item) → ℕ → List Entry → Type 0
 NoUpdateIsLost opening count list =
-    (key : List ℕ) (before : List Entry) (e : Entry) (grant : Grant) (until since : List Entry) → StandsAt list key before e
-    → IsTrue (is_asked is_write e.deed) → named_by e.deed ≡ Some grant.cookie → Acts opening count key before e
+    (key : List ℕ) (before : List Entry) (e : Entry) (grant : Grant) (until since : List Entry)
+    → StandsAt list key before e
+    → IsTrue (is_asked is_write e.deed) → named_by e.deed ≡ Some grant.cookie
+    → Acts opening count key before e
     → IsGranted opening key grant before until since
     → content_of (item_after opening count before key) ≡ Some (grant.body, grant.minutes)
 
 -- The entry is a write or a removal, and it acts.
-pub record Changes (opening : List ℕ → Option Item) (count : ℕ) (key : List ℕ) (before : List Entry) (e : Entry) : Type 0 where
+pub record Changes (opening : List ℕ → Option Item) (count : ℕ) (key : List ℕ) (before : List Entry)
+    (e : Entry) : Type 0 where
   pub kind : IsTrue (is_asked is_change e.deed)
   pub acts : Acts opening count key before e
 
--- Since the grant, which is the last of until, no entry has acquired a lock or changed the item; nor does the entry e that stands
+-- Since the grant, which is the last of until, no entry has acquired a lock or changed the item;
+-- nor does the entry e that stands
 -- behind, unless it names the cookie of the grant.
-pub record IsAlone (opening : List ℕ → Option Item) (count : ℕ) (key : List ℕ) (grant : Grant) (until since : List Entry) (e : Entry) : Type 0 where
-  pub nobody_acquired : (middle : List Entry) (f : Entry) → StandsAt since key middle f → granted f.reply ≡ None
-  pub nobody_changed : (middle : List Entry) (f : Entry) → StandsAt since key middle f → Changes opening count key (until ++ middle) f → ⊥
+pub record IsAlone (opening : List ℕ → Option Item) (count : ℕ) (key : List ℕ) (grant : Grant)
+    (until since : List Entry) (e : Entry) : Type 0 where
+  pub nobody_acquired : (middle : List Entry) (f : Entry) → StandsAt since key middle f
+      → granted f.reply ≡ None
+  pub nobody_changed : (middle : List Entry) (f : Entry) → StandsAt since key middle f
+      → Changes opening count key (until ++ middle) f → ⊥
   pub acquires_nothing : granted e.reply ≡ None
-  pub changes_by_cookie : Changes opening count key (until ++ since) e → named_by e.deed ≡ Some grant.cookie
+  pub changes_by_cookie : Changes opening count key (until ++ since) e
+      → named_by e.deed ≡ Some grant.cookie
 
--- Where a lock is in force nobody else has acquired or changed anything since its grant, and nobody does.
+-- Where a lock is in force nobody else has acquired or changed anything since its grant, and nobody
+-- does.
 abbrev pub NobodyElse : (List ℕ → Option Item) → ℕ → List Entry → Type 0
 NobodyElse opening count list =
-    (key : List ℕ) (before : List Entry) (e : Entry) (grant : Grant) (until since : List Entry) → StandsAt list key before e
-    → IsInForce opening count key grant.cookie before e.moment → IsGranted opening key grant before until since
+    (key : List ℕ) (before : List Entry) (e : Entry) (grant : Grant) (until since : List Entry)
+    → StandsAt list key before e
+    → IsInForce opening count key grant.cookie before e.moment
+    → IsGranted opening key grant before until since
     → IsAlone opening count key grant until since e
 
--- The lock of the cookie is in force behind the entries before, and has been held for so many seconds at the moment.
-pub record IsInForceFor (opening : List ℕ → Option Item) (count : ℕ) (key : List ℕ) (cookie seconds : ℕ) (before : List Entry) (moment : ℕ) : Type 0 where
+-- The lock of the cookie is in force behind the entries before, and has been held for so many
+-- seconds at the moment.
+pub record IsInForceFor (opening : List ℕ → Option Item) (count : ℕ) (key : List ℕ)
+    (cookie seconds : ℕ) (before : List Entry) (moment : ℕ) : Type 0 where
   pub in_force : IsInForce opening count key cookie before moment
   pub hold : Hold
   pub held : hold_of (item_after opening count before key) ≡ Some hold
   pub by_cookie : hold.cookie ≡ cookie
   pub held_for : age hold moment ≡ seconds
 
--- Where an acquire or a read is answered that a lock is in the way, that lock is in force, and as old as the answer says.
+-- Where an acquire or a read is answered that a lock is in the way, that lock is in force, and as
+-- old as the answer says.
 abbrev pub LockInTheWayIsInForce : (List ℕ → Option Item) → ℕ → List Entry → Type 0
 LockInTheWayIsInForce opening count list =
-    (key : List ℕ) (before : List Entry) (e : Entry) (cookie seconds : ℕ) → StandsAt list key before e
-    → IsTrue (is_asked is_content_ask e.deed) → e.reply ≡ Locked cookie seconds → IsInForceFor opening count key cookie seconds before e.moment
+    (key : List ℕ) (before : List Entry) (e : Entry) (cookie seconds : ℕ)
+    → StandsAt list key before e
+    → IsTrue (is_asked is_content_ask e.deed) → e.reply ≡ Locked cookie seconds
+    → IsInForceFor opening count key cookie seconds before e.moment
 
 -- What locks give: all four laws.
 pub record LocksHold (opening : List ℕ → Option Item) (count : ℕ) (list : List Entry) : Type 0 where

@@ -20,7 +20,8 @@ use Rattle.page_script.specs.Parts.{IsNumberThen}
 -- ---- words without spaces
 
 word_no_space : (text : List ℕ) → IsWord text → HasNo 32 text
-word_no_space text word = All-weaker (λ b. (32 < b) × (b ≢ 58)) (λ b. b ≢ 32) (λ b h e. omega (arith, h.0, e)) text word
+word_no_space text word = All-weaker (λ b. (32 < b) × (b ≢ 58)) (λ b. b ≢ 32)
+    (λ b h e. omega (arith, h.0, e)) text word
 
 pub decimal_no_space : (n : ℕ) → n < 2 ^ 64 → HasNo 32 (decimal n)
 decimal_no_space n small = word_no_space (decimal n) (decimal_word n small)
@@ -29,13 +30,15 @@ pub bytes_no_space : (bytes : List ℕ) → AreBytes bytes → HasNo 32 (bytes_w
 bytes_no_space bytes are = word_no_space (bytes_word bytes) (string_word bytes are)
 
 pub name_no_space : (name : List ℕ) → IsName name → HasNo 32 name
-name_no_space name is = All-weaker IsLetter (λ b. b ≢ 32) (λ b h e. omega (arith, h.0, e)) name is.lower
+name_no_space name is = All-weaker IsLetter (λ b. b ≢ 32) (λ b h e. omega (arith, h.0, e)) name
+    is.lower
 
 above_space : (b : ℕ) → nat_lt 32 b ≡ true → b ≢ 32
 above_space b h e = grind (arith, nat_tests)
 
 tested_no_space : (text : List ℕ) → list_all (nat_lt 32) text ≡ true → HasNo 32 text
-tested_no_space text h = All-weaker (λ b. IsTrue (nat_lt 32 b)) (λ b. b ≢ 32) above_space text (AllPass-from_list_all (nat_lt 32) text h)
+tested_no_space text h = All-weaker (λ b. IsTrue (nat_lt 32 b)) (λ b. b ≢ 32) above_space text
+    (AllPass-from_list_all (nat_lt 32) text h)
 
 pub need_no_space : (need : Need) → HasNo 32 (need_word need)
 need_no_space Exclusive = tested_no_space (codes "exclusive") refl
@@ -46,11 +49,13 @@ need_no_space Off = tested_no_space (codes "off") refl
 
 found_nowhere : (byte : ℕ) (word rest : List ℕ) → HasNo byte (word ++ byte ∷ rest) → ⊥
 found_nowhere byte [] rest none = All-head (λ b. b ≢ byte) byte rest none refl
-found_nowhere byte (w ∷ ws) rest none = found_nowhere byte ws rest (All-tail (λ b. b ≢ byte) w (ws ++ byte ∷ rest) none)
+found_nowhere byte (w ∷ ws) rest none = found_nowhere byte ws rest
+    (All-tail (λ b. b ≢ byte) w (ws ++ byte ∷ rest) none)
 
 -- a text with a byte is no text without it
 pub no_cut : (byte : ℕ) (text word rest : List ℕ) → HasNo byte text → text ≡ word ++ byte ∷ rest → ⊥
-no_cut byte text word rest none joined = found_nowhere byte word rest (subst (HasNo byte) joined none)
+no_cut byte text word rest none joined = found_nowhere byte word rest
+    (subst (HasNo byte) joined none)
 
 -- ---- words one behind another
 
@@ -58,27 +63,40 @@ pub two_words : (a b : List ℕ) → a then b ≡ a ++ 32 ∷ b
 two_words a b = append_assoc a (32 ∷ []) b
 
 pub three_words : (a b c : List ℕ) → a then b then c ≡ a ++ 32 ∷ (b ++ 32 ∷ c)
-three_words a b c = two_words (a then b) c ∙ ap (λ t. t ++ 32 ∷ c) (two_words a b) ∙ append_assoc a (32 ∷ b) (32 ∷ c)
+three_words a b c = two_words (a then b) c ∙ ap (λ t. t ++ 32 ∷ c) (two_words a b)
+    ∙ append_assoc a (32 ∷ b) (32 ∷ c)
 
 pub four_words : (a b c d : List ℕ) → a then b then c then d ≡ a ++ 32 ∷ (b ++ 32 ∷ (c ++ 32 ∷ d))
 four_words a b c d =
     two_words (a then b then c) d ∙ ap (λ t. t ++ 32 ∷ d) (three_words a b c)
-    ∙ append_assoc a (32 ∷ (b ++ 32 ∷ c)) (32 ∷ d) ∙ ap (λ t. a ++ 32 ∷ t) (append_assoc b (32 ∷ c) (32 ∷ d))
+    ∙ append_assoc a (32 ∷ (b ++ 32 ∷ c)) (32 ∷ d)
+    ∙ ap (λ t. a ++ 32 ∷ t) (append_assoc b (32 ∷ c) (32 ∷ d))
 
 -- ---- numbers
 
-pub number_splits : (text : List ℕ) (max n : ℕ) (rest : List ℕ) → max < 2 ^ 64 → IsNumberThen text max n rest → SplitsAt 32 text (decimal n) rest
-number_splits text max n rest bound is = record { joined = is.spelled; first = decimal_no_space n (omega (arith, is.small)) }
+pub number_splits : (text : List ℕ) (max n : ℕ) (rest : List ℕ) → max < 2 ^ 64
+    → IsNumberThen text max n rest → SplitsAt 32 text (decimal n) rest
+number_splits text max n rest bound is = record {
+  joined = is.spelled;
+  first =
+      decimal_no_space n (omega (arith, is.small));
+}
 
 -- the word before the first space is no number
-pub no_number_then : (text word behind : List ℕ) (max : ℕ) → max < 2 ^ 64 → SplitsAt 32 text word behind → ((n : ℕ) → ¬ IsNumber word max n)
+pub no_number_then : (text word behind : List ℕ) (max : ℕ) → max < 2 ^ 64
+    → SplitsAt 32 text word behind → ((n : ℕ) → ¬ IsNumber word max n)
     → (n : ℕ) (rest : List ℕ) → IsNumberThen text max n rest → ⊥
 no_number_then text word behind max bound split none n rest is =
-    none n ((split_same 32 text word behind (decimal n) rest split (number_splits text max n rest bound is)).0, is.small)
+    none n (
+      (split_same 32 text word behind (decimal n) rest split
+          (number_splits text max n rest bound is)).0,
+      is.small,
+    )
 
 -- one text begins with one number
 pub one_number_then : (text : List ℕ) (max m n : ℕ) (rest behind : List ℕ) → max < 2 ^ 64
     → IsNumberThen text max m rest → IsNumberThen text max n behind → (m ≡ n) × (rest ≡ behind)
 one_number_then text max m n rest behind bound a b =
-    let same = split_same 32 text (decimal m) rest (decimal n) behind (number_splits text max m rest bound a) (number_splits text max n behind bound b) in
+    let same = split_same 32 text (decimal m) rest (decimal n) behind
+    (number_splits text max m rest bound a) (number_splits text max n behind bound b) in
     (decimal_injective m n (omega (arith, a.small)) (omega (arith, b.small)) same.0, same.1)

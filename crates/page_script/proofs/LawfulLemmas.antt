@@ -44,7 +44,8 @@ own-true : (m number : ℕ) → (m == number) ≡ true → m ≡ number
 own-true m number e = grind (arith, nat_tests)
 
 -- a turn more in front
-in_front : (number : ℕ) (turn : Turn) (turns : List Turn) (event : Event) → IsLast number turns event → IsLast number (turn ∷ turns) event
+in_front : (number : ℕ) (turn : Turn) (turns : List Turn) (event : Event)
+    → IsLast number turns event → IsLast number (turn ∷ turns) event
 in_front number turn turns event found = record {
   before = turn ∷ found.before;
   turn = found.turn;
@@ -55,23 +56,29 @@ in_front number turn turns event found = record {
   answer = found.answer;
 }
 
-last_turn : (number : ℕ) (turns : List Turn) (events : List Event) (event : Event) → map event_of (turns_of number turns) ≡ events ++ event ∷ [] → IsLast number turns event
+last_turn : (number : ℕ) (turns : List Turn) (events : List Event) (event : Event)
+    → map event_of (turns_of number turns) ≡ events ++ event ∷ [] → IsLast number turns event
 last_turn number [] [] event is = absurd (cc is)
 last_turn number [] (other ∷ events) event is = absurd (cc is)
-last_turn number (turn ∷ turns) events event is = by_page (λ es e. last_turn number turns es event e) (turn.page == number) refl events is
+last_turn number (turn ∷ turns) events event is =
+    by_page (λ es e. last_turn number turns es event e) (turn.page == number) refl events is
   where
-    by_page : ((es : List Event) → map event_of (turns_of number turns) ≡ es ++ event ∷ [] → IsLast number turns event) → (b : Bool) → (turn.page == number) ≡ b → (es : List Event)
-        → map event_of (cond b (turn ∷ turns_of number turns) (turns_of number turns)) ≡ es ++ event ∷ [] → IsLast number (turn ∷ turns) event
+    by_page : ((es : List Event) → map event_of (turns_of number turns) ≡ es ++ event ∷ []
+        → IsLast number turns event) → (b : Bool) → (turn.page == number) ≡ b → (es : List Event)
+        → map event_of (cond b (turn ∷ turns_of number turns) (turns_of number turns)) ≡ es ++ event
+        ∷ [] → IsLast number (turn ∷ turns) event
     by_page next true own [] e = record {
       before = [];
       turn = turn;
       behind = turns;
       place = refl;
       own = own-true turn.page number own;
-      last = (let rest : map event_of (turns_of number turns) ≡ [] = cc e in map-nil (turns_of number turns) rest);
+      last = (let rest : map event_of (turns_of number turns) ≡ [] = cc e in
+          map-nil (turns_of number turns) rest);
       answer = cc e;
     }
-    by_page next true own (other ∷ es) e = (let rest : map event_of (turns_of number turns) ≡ es ++ event ∷ [] = cc e in in_front number turn turns event (next es rest))
+    by_page next true own (other ∷ es) e = (let rest : map event_of (turns_of number turns) ≡ es
+        ++ event ∷ [] = cc e in in_front number turn turns event (next es rest))
     by_page next false own es e = in_front number turn turns event (next es e)
 
 -- ---- a release by force
@@ -82,7 +89,8 @@ content-ask ReadOnly apart = refl
 content-ask Off apart = absurd (apart refl)
 
 -- the last answer of a page that met an old lock, at its place
-module _ (turns : List Turn) (number : ℕ) (page : Page) (cookie : ℕ) (legal : IsLegal nothing 0 (history turns)) (page_lawful : IsLawfulPage turns number page)
+module _ (turns : List Turn) (number : ℕ) (page : Page) (cookie : ℕ)
+    (legal : IsLegal nothing 0 (history turns)) (page_lawful : IsLawfulPage turns number page)
     (met : MeetsOldLock page.terms page.past cookie)
   where
     abbrev request : Request
@@ -92,7 +100,8 @@ module _ (turns : List Turn) (number : ℕ) (page : Page) (cookie : ℕ) (legal 
     event = heard met.moment request (Reply (Locked cookie met.age))
 
     heard-last : map event_of (turns_of number turns) ≡ filter is_heard met.earlier ++ event ∷ []
-    heard-last = sym page_lawful.own ∙ ap (filter is_heard) met.last ∙ filter-append is_heard met.earlier (event ∷ [])
+    heard-last = sym page_lawful.own ∙ ap (filter is_heard) met.last
+        ∙ filter-append is_heard met.earlier (event ∷ [])
 
     place : IsLast number turns event
     place = last_turn number turns (filter is_heard met.earlier) event heard-last
@@ -106,15 +115,20 @@ module _ (turns : List Turn) (number : ℕ) (page : Page) (cookie : ℕ) (legal 
     same_reply : place.turn.reply ≡ Locked cookie met.age
     same_reply = cc place.answer
 
-    in_force : IsInForceFor nothing 0 page.terms.key cookie met.age (history place.before) place.turn.moment
+    in_force : IsInForceFor nothing 0 page.terms.key cookie met.age (history place.before)
+        place.turn.moment
     in_force =
-        lock_in_the_way nothing 0 (history turns) legal page.terms.key (history place.before) (entry_of place.turn) cookie met.age
+        lock_in_the_way nothing 0 (history turns) legal page.terms.key (history place.before)
+        (entry_of place.turn) cookie met.age
         (record {
           behind = history place.behind;
-          place = ap history place.place ∙ map-append entry_of place.before (place.turn ∷ place.behind);
-          on_key = (bytes_eq-Decides page.terms.key place.turn.request.key).1 (sym (ap (λ (r : Request). r.key) same_request));
+          place = ap history place.place ∙ map-append entry_of place.before
+              (place.turn ∷ place.behind);
+          on_key = (bytes_eq-Decides page.terms.key place.turn.request.key).1
+              (sym (ap (λ (r : Request). r.key) same_request));
         })
-        (ap (λ (r : Request). is_content_ask r.ask) same_request ∙ content-ask page.terms.need met.content) same_reply
+        (ap (λ (r : Request). is_content_ask r.ask) same_request
+        ∙ content-ask page.terms.need met.content) same_reply
 
     met-old : MetOldLock turns number page cookie
     met-old = record {
@@ -126,26 +140,37 @@ module _ (turns : List Turn) (number : ℕ) (page : Page) (cookie : ℕ) (legal 
       own = place.own;
       last = place.last;
       answer = place.answer;
-      in_force = subst (IsInForceFor nothing 0 page.terms.key cookie met.age (history place.before)) same_moment in_force;
+      in_force = subst (IsInForceFor nothing 0 page.terms.key cookie met.age (history place.before))
+          same_moment in_force;
     }
 
-pub forces : (world : World) → IsLegal nothing 0 (history world.turns) → IsLawfulWorld world → ForcesOldLocks world
+pub forces : (world : World) → IsLegal nothing 0 (history world.turns) → IsLawfulWorld world
+    → ForcesOldLocks world
 forces world legal lawful before page behind t cookie place not_ended acts =
     let page_lawful = lawful before page behind place in
-    met-old world.turns (length before) page cookie legal page_lawful (releases page.terms page.past t cookie page_lawful.lawful not_ended acts)
+    met-old world.turns (length before) page cookie legal page_lawful
+    (releases page.terms page.past t cookie page_lawful.lawful not_ended acts)
 
-if-legal : (list : List Entry) (told : Option (List ℕ → Option Item)) (P : Type 0) → TellsAfter nothing 0 list told → (IsLegal nothing 0 list → P) → IfTold told P
+if-legal : (list : List Entry) (told : Option (List ℕ → Option Item)) (P : Type 0)
+    → TellsAfter nothing 0 list told → (IsLegal nothing 0 list → P) → IfTold told P
 if-legal list None P tells f = tt
 if-legal list (Some items) P tells f = f tells.0
 
-module _ {K : Type 0} (CanCount : ℕ → Type 0) (told : K → Option (List ℕ → Option Item)) (count : K → ℕ) (script : Script K) (world : World)
+module _ {K : Type 0} (CanCount : ℕ → Type 0) (told : K → Option (List ℕ → Option Item))
+    (count : K → ℕ) (script : Script K) (world : World)
     (stands : Stands CanCount told count script world)
   where
     pub lawful : IsLawfulWorld world
     lawful before page behind place =
         let at : 0 + length before ≡ length before = omega arith in
-        let there = held-at world.turns 0 (length before) script.pages.items before page behind (subst (PagesStand world.turns 0 script.pages.items) place stands.pages) at in
-        record { lawful = subst (λ (terms : Terms). IsLawful terms page.past) there.1.terms there.1.past.lawful; own = there.1.own }
+        let there = held-at world.turns 0 (length before) script.pages.items before page behind
+        (subst (PagesStand world.turns 0 script.pages.items) place stands.pages) at in
+        record {
+          lawful = subst (λ (terms : Terms). IsLawful terms page.past) there.1.terms
+              there.1.past.lawful;
+          own = there.1.own;
+        }
 
     pub forced : IfTold (told (keeper_of script)) (ForcesOldLocks world)
-    forced = if-legal (history world.turns) (told (keeper_of script)) (ForcesOldLocks world) stands.desk.keeper.told_is (λ legal. forces world legal lawful)
+    forced = if-legal (history world.turns) (told (keeper_of script)) (ForcesOldLocks world)
+        stands.desk.keeper.told_is (λ legal. forces world legal lawful)

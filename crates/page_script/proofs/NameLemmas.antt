@@ -6,7 +6,8 @@ use Rattle.std.proofs.lemmas.List.{drop-replicate}
 use Rattle.page_script.specs.Names.{IsName, HoldsName, padded}
 
 -- a name at the front of an array of zeros
-pub HoldsName-front : (name : List ℕ) → IsName name → HoldsName (name ++ drop (length name) (replicate 16 0)) (length name)
+pub HoldsName-front : (name : List ℕ) → IsName name
+    → HoldsName (name ++ drop (length name) (replicate 16 0)) (length name)
 HoldsName-front name is_name =
     let zeros = drop (length name) (replicate 16 0) in
     let front : take (length name) (name ++ zeros) ≡ name = take-append_seam name zeros in

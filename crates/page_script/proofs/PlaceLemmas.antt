@@ -11,15 +11,18 @@ use Rattle.page_script.specs.Standing.{PageStands, PagesStand}
 
 -- ---- lists
 
-pub All-append : {X : Type 0} (P : X → Type 0) (xs ys : List X) → AllByRecursion P xs → AllByRecursion P ys → AllByRecursion P (xs ++ ys)
+pub All-append : {X : Type 0} (P : X → Type 0) (xs ys : List X) → AllByRecursion P xs
+    → AllByRecursion P ys → AllByRecursion P (xs ++ ys)
 All-append P [] ys all more = more
 All-append P (x ∷ xs) ys all more = (all.0, All-append P xs ys all.1 more)
 
-pub All-more : {X : Type 0} (P Q : X → Type 0) (xs : List X) → ((x : X) → P x → Q x) → AllByRecursion P xs → AllByRecursion Q xs
+pub All-more : {X : Type 0} (P Q : X → Type 0) (xs : List X) → ((x : X) → P x → Q x)
+    → AllByRecursion P xs → AllByRecursion Q xs
 All-more P Q [] more all = tt
 All-more P Q (x ∷ xs) more all = (more x all.0, All-more P Q xs more all.1)
 
-pub All-at : {X : Type 0} (P : X → Type 0) (xs ys : List X) (x : X) → AllByRecursion P (xs ++ x ∷ ys) → P x
+pub All-at : {X : Type 0} (P : X → Type 0) (xs ys : List X) (x : X)
+    → AllByRecursion P (xs ++ x ∷ ys) → P x
 All-at P [] ys x all = all.0
 All-at P (y ∷ xs) ys x all = All-at P xs ys x all.1
 
@@ -29,20 +32,26 @@ is-own : (m number : ℕ) → m ≢ number → (m == number) ≡ false
 is-own m number apart = grind (arith, nat_tests)
 
 -- turns that are all of another page are none of this one
-pub turns_of-none : (number : ℕ) (turns : List Turn) → AllByRecursion (λ (turn : Turn). turn.page ≢ number) turns → turns_of number turns ≡ []
+pub turns_of-none : (number : ℕ) (turns : List Turn)
+    → AllByRecursion (λ (turn : Turn). turn.page ≢ number) turns → turns_of number turns ≡ []
 turns_of-none number [] all = refl
 turns_of-none number (turn ∷ turns) all =
-    ap (λ b. cond b (turn ∷ turns_of number turns) (turns_of number turns)) (is-own turn.page number all.0) ∙ turns_of-none number turns all.1
+    ap (λ b. cond b (turn ∷ turns_of number turns) (turns_of number turns))
+    (is-own turn.page number all.0) ∙ turns_of-none number turns all.1
 
-pub turns_of-other : (number m : ℕ) (turns asked : List Turn) → m ≢ number → AllByRecursion (λ (turn : Turn). turn.page ≡ m) asked
+pub turns_of-other : (number m : ℕ) (turns asked : List Turn) → m ≢ number
+    → AllByRecursion (λ (turn : Turn). turn.page ≡ m) asked
     → turns_of number (turns ++ asked) ≡ turns_of number turns
 turns_of-other number m turns asked apart own =
     filter-append (λ (turn : Turn). turn.page == number) turns asked
-    ∙ ap (λ more. turns_of number turns ++ more) (turns_of-none number asked (All-more (λ (turn : Turn). turn.page ≡ m) (λ (turn : Turn). turn.page ≢ number) asked (λ turn is e. apart (sym is ∙ e)) own))
+    ∙ ap (λ more. turns_of number turns ++ more)
+    (turns_of-none number asked (All-more (λ (turn : Turn). turn.page ≡ m)
+    (λ (turn : Turn). turn.page ≢ number) asked (λ turn is e. apart (sym is ∙ e)) own))
     ∙ append-nil (turns_of number turns)
 
 -- a page that asks nothing goes on standing
-PageStands-other : (turns asked : List Turn) (number m : ℕ) (held : ScriptPage) (page : Page) → m ≢ number → AllByRecursion (λ (turn : Turn). turn.page ≡ m) asked
+PageStands-other : (turns asked : List Turn) (number m : ℕ) (held : ScriptPage) (page : Page)
+    → m ≢ number → AllByRecursion (λ (turn : Turn). turn.page ≡ m) asked
     → PageStands turns number held page → PageStands (turns ++ asked) number held page
 PageStands-other turns asked number m held page apart own stands = record {
   name = stands.name;
@@ -52,7 +61,8 @@ PageStands-other turns asked number m held page apart own stands = record {
   own = stands.own ∙ ap (map event_of) (sym (turns_of-other number m turns asked apart own));
 }
 
-PagesStand-other : (turns asked : List Turn) (number m : ℕ) (helds : List ScriptPage) (pages : List Page) → m < number → AllByRecursion (λ (turn : Turn). turn.page ≡ m) asked
+PagesStand-other : (turns asked : List Turn) (number m : ℕ) (helds : List ScriptPage)
+    (pages : List Page) → m < number → AllByRecursion (λ (turn : Turn). turn.page ≡ m) asked
     → PagesStand turns number helds pages → PagesStand (turns ++ asked) number helds pages
 PagesStand-other turns asked number m [] [] below own stand = tt
 PagesStand-other turns asked number m [] (page ∷ pages) below own stand = absurd stand
@@ -64,25 +74,33 @@ PagesStand-other turns asked number m (held ∷ helds) (page ∷ pages) below ow
 
 -- ---- places
 
-pub PagesStand-length : (turns : List Turn) (number : ℕ) (helds : List ScriptPage) (pages : List Page) → PagesStand turns number helds pages → length helds ≡ length pages
+pub PagesStand-length : (turns : List Turn) (number : ℕ) (helds : List ScriptPage)
+    (pages : List Page) → PagesStand turns number helds pages → length helds ≡ length pages
 PagesStand-length turns number [] [] stand = refl
 PagesStand-length turns number [] (page ∷ pages) stand = absurd stand
 PagesStand-length turns number (held ∷ helds) [] stand = absurd stand
-PagesStand-length turns number (held ∷ helds) (page ∷ pages) stand = let rest = PagesStand-length turns (number + 1) helds pages stand.1 in omega arith
+PagesStand-length turns number (held ∷ helds) (page ∷ pages) stand = let rest =
+    PagesStand-length turns (number + 1) helds pages stand.1 in omega arith
 
--- The page of the world at a place, for which the page of the script there stands; and what stands where both have changed.
-pub record IsFound (turns : List Turn) (first : ℕ) (helds : List ScriptPage) (pages : List Page) (n number : ℕ) (held : ScriptPage) : Type 0 where
+-- The page of the world at a place, for which the page of the script there stands; and what stands
+-- where both have changed.
+pub record IsFound (turns : List Turn) (first : ℕ) (helds : List ScriptPage) (pages : List Page)
+    (n number : ℕ) (held : ScriptPage) : Type 0 where
   pub before : List Page
   pub page : Page
   pub behind : List Page
   pub place : pages ≡ before ++ page ∷ behind
   pub count : length before ≡ n
   pub stands : PageStands turns number held page
-  pub goes_on : (held' : ScriptPage) (page' : Page) (asked : List Turn) → AllByRecursion (λ (turn : Turn). turn.page ≡ number) asked → PageStands (turns ++ asked) number held' page'
+  pub goes_on : (held' : ScriptPage) (page' : Page) (asked : List Turn)
+      → AllByRecursion (λ (turn : Turn). turn.page ≡ number) asked
+      → PageStands (turns ++ asked) number held' page'
       → PagesStand (turns ++ asked) first (set helds n held') (before ++ page' ∷ behind)
 
-pub found : (turns : List Turn) (first : ℕ) (helds : List ScriptPage) (pages : List Page) (n number : ℕ) (held : ScriptPage) → PagesStand turns first helds pages → n < length helds
-    → held ≡ get_or helds n held → first + n ≡ number → IsFound turns first helds pages n number held
+pub found : (turns : List Turn) (first : ℕ) (helds : List ScriptPage) (pages : List Page)
+    (n number : ℕ) (held : ScriptPage) → PagesStand turns first helds pages → n < length helds
+    → held ≡ get_or helds n held → first + n ≡ number
+    → IsFound turns first helds pages n number held
 found turns first [] pages n number held stand inside is at = absurd (omega arith)
 found turns first (h ∷ hs) [] n number held stand inside is at = absurd stand
 found turns first (h ∷ hs) (p ∷ ps) zero number held stand inside is at =
@@ -92,14 +110,16 @@ found turns first (h ∷ hs) (p ∷ ps) zero number held stand inside is at =
       behind = ps;
       place = refl;
       count = refl;
-      stands = subst (λ k. PageStands turns k held p) here (subst (λ x. PageStands turns first x p) (sym is) stand.0);
+      stands = subst (λ k. PageStands turns k held p) here
+          (subst (λ x. PageStands turns first x p) (sym is) stand.0);
       goes_on = λ held' page' asked own new. (
         subst (λ k. PageStands (turns ++ asked) k held' page') (sym here) new,
         PagesStand-other turns asked (first + 1) number hs ps (omega arith) own stand.1,
       );
     }
 found turns first (h ∷ hs) (p ∷ ps) (suc n) number held stand inside is at =
-    let rest = found turns (first + 1) hs ps n number held stand.1 (omega arith) is (omega arith) in record {
+    let rest = found turns (first + 1) hs ps n number held stand.1 (omega arith) is (omega arith) in
+    record {
       before = p ∷ rest.before;
       page = rest.page;
       behind = rest.behind;
@@ -113,27 +133,34 @@ found turns first (h ∷ hs) (p ∷ ps) (suc n) number held stand inside is at =
     }
 
 -- a page more, behind the others
-pub PagesStand-push : (turns : List Turn) (first number : ℕ) (helds : List ScriptPage) (pages : List Page) (held : ScriptPage) (page : Page) → PagesStand turns first helds pages
-    → first + length helds ≡ number → PageStands turns number held page → PagesStand turns first (helds ++ held ∷ []) (pages ++ page ∷ [])
+pub PagesStand-push : (turns : List Turn) (first number : ℕ) (helds : List ScriptPage)
+    (pages : List Page) (held : ScriptPage) (page : Page) → PagesStand turns first helds pages
+    → first + length helds ≡ number → PageStands turns number held page
+    → PagesStand turns first (helds ++ held ∷ []) (pages ++ page ∷ [])
 PagesStand-push turns first number [] [] held page stand at new =
-    let here : number ≡ first = omega arith in (subst (λ k. PageStands turns k held page) here new, tt)
+    let here : number ≡ first = omega arith in
+    (subst (λ k. PageStands turns k held page) here new, tt)
 PagesStand-push turns first number [] (p ∷ ps) held page stand at new = absurd stand
 PagesStand-push turns first number (h ∷ hs) [] held page stand at new = absurd stand
 PagesStand-push turns first number (h ∷ hs) (p ∷ ps) held page stand at new =
     (stand.0, PagesStand-push turns (first + 1) number hs ps held page stand.1 (omega arith) new)
 
 -- the page of the script that stands for a page of the world
-pub held-at : (turns : List Turn) (first number : ℕ) (helds : List ScriptPage) (before : List Page) (page : Page) (behind : List Page) → PagesStand turns first helds (before ++ page ∷ behind)
+pub held-at : (turns : List Turn) (first number : ℕ) (helds : List ScriptPage) (before : List Page)
+    (page : Page) (behind : List Page) → PagesStand turns first helds (before ++ page ∷ behind)
     → first + length before ≡ number → (held : ScriptPage) × PageStands turns number held page
 held-at turns first number [] [] page behind stand at = absurd stand
 held-at turns first number [] (p ∷ before) page behind stand at = absurd stand
 held-at turns first number (h ∷ hs) [] page behind stand at =
-    let here : first ≡ number = omega arith in (h, subst (λ k. PageStands turns k h page) here stand.0)
-held-at turns first number (h ∷ hs) (p ∷ before) page behind stand at = held-at turns (first + 1) number hs before page behind stand.1 (omega arith)
+    let here : first ≡ number = omega arith in
+    (h, subst (λ k. PageStands turns k h page) here stand.0)
+held-at turns first number (h ∷ hs) (p ∷ before) page behind stand at =
+    held-at turns (first + 1) number hs before page behind stand.1 (omega arith)
 
 -- ---- names
 
-names-apart : (turns : List Turn) (first : ℕ) (helds : List ScriptPage) (pages : List Page) (name : List ℕ) → PagesStand turns first helds pages → IsUnused helds name
+names-apart : (turns : List Turn) (first : ℕ) (helds : List ScriptPage) (pages : List Page)
+    (name : List ℕ) → PagesStand turns first helds pages → IsUnused helds name
     → AllByRecursion (λ (page : Page). page.name ≢ name) pages
 names-apart turns first [] [] name stand unused = tt
 names-apart turns first [] (p ∷ ps) name stand unused = absurd stand
@@ -141,45 +168,59 @@ names-apart turns first (h ∷ hs) [] name stand unused = absurd stand
 names-apart turns first (h ∷ hs) (p ∷ ps) name stand unused =
     (λ is. unused.0 (stand.0.name ∙ is), names-apart turns (first + 1) hs ps name stand.1 unused.1)
 
-pub unused-no_name : (turns : List Turn) (first : ℕ) (helds : List ScriptPage) (pages : List Page) (name : List ℕ) → PagesStand turns first helds pages → IsUnused helds name
+pub unused-no_name : (turns : List Turn) (first : ℕ) (helds : List ScriptPage) (pages : List Page)
+    (name : List ℕ) → PagesStand turns first helds pages → IsUnused helds name
     → HasName pages name → ⊥
 unused-no_name turns first helds pages name stand unused has =
     All-at (λ (page : Page). page.name ≢ name) has.0 has.2 has.1
-    (subst (AllByRecursion (λ (page : Page). page.name ≢ name)) has.3 (names-apart turns first helds pages name stand unused)) has.4
+    (subst (AllByRecursion (λ (page : Page). page.name ≢ name)) has.3
+    (names-apart turns first helds pages name stand unused)) has.4
 
-pub place-has_name : (turns : List Turn) (helds : List ScriptPage) (pages : List Page) (name : List ℕ) (n : ℕ) → PagesStand turns 0 helds pages → IsPlaceOf helds name n → HasName pages name
+pub place-has_name : (turns : List Turn) (helds : List ScriptPage) (pages : List Page)
+    (name : List ℕ) (n : ℕ) → PagesStand turns 0 helds pages → IsPlaceOf helds name n
+    → HasName pages name
 place-has_name turns helds pages name n stand place =
     let at : 0 + n ≡ n = omega arith in
     let there = found turns 0 helds pages n n place.page stand place.inside place.there at in
     (there.before, there.page, there.behind, there.place, sym there.stands.name ∙ place.named)
 
 -- a name that no page has is that of no page of the script
-pub no_name-unused : (turns : List Turn) (first : ℕ) (helds : List ScriptPage) (pages : List Page) (name : List ℕ) → PagesStand turns first helds pages → (HasName pages name → ⊥)
+pub no_name-unused : (turns : List Turn) (first : ℕ) (helds : List ScriptPage) (pages : List Page)
+    (name : List ℕ) → PagesStand turns first helds pages → (HasName pages name → ⊥)
     → IsUnused helds name
 no_name-unused turns first [] [] name stand none = tt
 no_name-unused turns first [] (p ∷ ps) name stand none = absurd stand
 no_name-unused turns first (h ∷ hs) [] name stand none = absurd stand
 no_name-unused turns first (h ∷ hs) (p ∷ ps) name stand none = (
   λ is. none ([], p, ps, refl, sym stand.0.name ∙ is),
-  no_name-unused turns (first + 1) hs ps name stand.1 (λ has. none (p ∷ has.0, has.1, has.2, ap (λ pages. p ∷ pages) has.3, has.4)),
+  no_name-unused turns (first + 1) hs ps name stand.1
+      (λ has. none (p ∷ has.0, has.1, has.2, ap (λ pages. p ∷ pages) has.3, has.4)),
 )
 
 -- an element does not depend on the default
-pub get_or-same : {X : Type 0} (xs : List X) (n : ℕ) (x y : X) → n < length xs → get_or xs n x ≡ get_or xs n y
+pub get_or-same : {X : Type 0} (xs : List X) (n : ℕ) (x y : X) → n < length xs
+    → get_or xs n x ≡ get_or xs n y
 get_or-same [] n x y inside = absurd (omega arith)
 get_or-same (z ∷ xs) zero x y inside = refl
 get_or-same (z ∷ xs) (suc n) x y inside = get_or-same xs n x y (omega arith)
 
 -- the page at the place of a name
-pub place-named : (helds : List ScriptPage) (name : List ℕ) (n : ℕ) (held : ScriptPage) → IsPlaceOf helds name n → held ≡ get_or helds n held → held.name ≡ name
+pub place-named : (helds : List ScriptPage) (name : List ℕ) (n : ℕ) (held : ScriptPage)
+    → IsPlaceOf helds name n → held ≡ get_or helds n held → held.name ≡ name
 place-named helds name n held place is =
-    ap (λ (h : ScriptPage). h.name) (is ∙ get_or-same helds n held place.page place.inside ∙ sym place.there) ∙ place.named
+    ap (λ (h : ScriptPage). h.name) (is ∙ get_or-same helds n held place.page place.inside
+    ∙ sym place.there) ∙ place.named
 
 -- a name at a place is in use
-unused-at : (helds : List ScriptPage) (name : List ℕ) (n : ℕ) (held : ScriptPage) → n < length helds → IsUnused helds name → held ≡ get_or helds n held → held.name ≢ name
+unused-at : (helds : List ScriptPage) (name : List ℕ) (n : ℕ) (held : ScriptPage) → n < length helds
+    → IsUnused helds name → held ≡ get_or helds n held → held.name ≢ name
 unused-at [] name n held inside unused is = absurd (omega arith)
-unused-at (h ∷ hs) name zero held inside unused is = λ e. unused.0 (ap (λ (x : ScriptPage). x.name) (sym is) ∙ e)
-unused-at (h ∷ hs) name (suc n) held inside unused is = unused-at hs name n held (omega arith) unused.1 is
+unused-at (h ∷ hs) name zero held inside unused is =
+    λ e. unused.0 (ap (λ (x : ScriptPage). x.name) (sym is) ∙ e)
+unused-at (h ∷ hs) name (suc n) held inside unused is =
+    unused-at hs name n held (omega arith) unused.1 is
 
-pub place-used : (helds : List ScriptPage) (name : List ℕ) (n : ℕ) → IsPlaceOf helds name n → IsUnused helds name → ⊥
-place-used helds name n place unused = unused-at helds name n place.page place.inside unused place.there place.named
+pub place-used : (helds : List ScriptPage) (name : List ℕ) (n : ℕ) → IsPlaceOf helds name n
+    → IsUnused helds name → ⊥
+place-used helds name n place unused = unused-at helds name n place.page place.inside unused
+    place.there place.named

@@ -32,9 +32,11 @@ on_err (Ok a) p = tt
 on_err (Err e) p = p
 
 -- what was appended stays where nothing failed
-pub ok-undone : {A E : Type 0} (written result : Result A E) (new printed : List ℕ) (len : ℕ) (P Q : Type 0) → result ≡ written → new ≡ cond (is_ok written) printed (take len printed)
+pub ok-undone : {A E : Type 0} (written result : Result A E) (new printed : List ℕ) (len : ℕ)
+    (P Q : Type 0) → result ≡ written → new ≡ cond (is_ok written) printed (take len printed)
     → (new ≡ printed → P → Q) → OnOk written P → OnOk result Q
-ok-undone (Ok a) result new printed len P Q is items f p = subst (λ r. OnOk r Q) (sym is) (f items p)
+ok-undone (Ok a) result new printed len P Q is items f p =
+    subst (λ r. OnOk r Q) (sym is) (f items p)
 ok-undone (Err e) result new printed len P Q is items f p = subst (λ r. OnOk r Q) (sym is) tt
 
 -- ---- what a past holds
@@ -51,21 +53,26 @@ or-swap true false = refl
 or-swap false true = refl
 or-swap false false = refl
 
-has_ended-push : (past : List Event) (event : Event) → has_ended (past ++ event ∷ []) ≡ (has_ended (event ∷ []) || has_ended past)
-has_ended-push past event = has_ended-append past (event ∷ []) ∙ or-swap (has_ended past) (has_ended (event ∷ []))
+has_ended-push : (past : List Event) (event : Event)
+    → has_ended (past ++ event ∷ []) ≡ (has_ended (event ∷ []) || has_ended past)
+has_ended-push past event = has_ended-append past (event ∷ [])
+    ∙ or-swap (has_ended past) (has_ended (event ∷ []))
 
-has_ended-cons : (event : Event) (past : List Event) → has_ended (event ∷ past) ≡ (has_ended (event ∷ []) || has_ended past)
+has_ended-cons : (event : Event) (past : List Event)
+    → has_ended (event ∷ past) ≡ (has_ended (event ∷ []) || has_ended past)
 has_ended-cons event past = has_ended-append (event ∷ []) past
 
 has_ended-reverse : (past : List Event) → has_ended (reverse past) ≡ has_ended past
 has_ended-reverse [] = refl
 has_ended-reverse (event ∷ past) =
-    ap has_ended (reverse-append (event ∷ []) past) ∙ has_ended-push (reverse past) event ∙ ap (λ b. has_ended (event ∷ []) || b) (has_ended-reverse past)
+    ap has_ended (reverse-append (event ∷ []) past) ∙ has_ended-push (reverse past) event
+    ∙ ap (λ b. has_ended (event ∷ []) || b) (has_ended-reverse past)
     ∙ sym (has_ended-cons event past)
 
 -- ---- a page runs before its end
 
-pub end-no_run : (answer : Heard) (content : Option (List ℕ)) (first : Bool) → after_end answer ≢ run content first
+pub end-no_run : (answer : Heard) (content : Option (List ℕ)) (first : Bool)
+    → after_end answer ≢ run content first
 end-no_run (Reply replies.Done) content first = λ e. cc
 end-no_run (Reply replies.Missing) content first = λ e. cc
 end-no_run (Reply (replies.Locked cookie age)) content first = λ e. cc
@@ -77,32 +84,42 @@ end-no_run (Reply replies.CookiesOut) content first = λ e. cc
 end-no_run (Reply replies.PlacesOut) content first = λ e. cc
 end-no_run (Strange status) content first = λ e. cc
 
-pub last-no_run : (terms : Terms) (ask : Option Ask) (content : Option (List ℕ)) (first : Bool) → at_end terms ask ≢ run content first
+pub last-no_run : (terms : Terms) (ask : Option Ask) (content : Option (List ℕ)) (first : Bool)
+    → at_end terms ask ≢ run content first
 last-no_run terms None content first = λ e. cc
 last-no_run terms (Some ask) content first = λ e. cc
 
-pub loss-no_run : (action : Action) (content : Option (List ℕ)) (first : Bool) → after_loss action ≢ run content first
+pub loss-no_run : (action : Action) (content : Option (List ℕ)) (first : Bool)
+    → after_loss action ≢ run content first
 loss-no_run (send request) content first = λ e. cc
 loss-no_run (wait_until moment) content first = λ e. cc
 loss-no_run (run body mark) content first = λ e. cc
 loss-no_run (over outcome) content first = λ e. cc
 
-heard-run : (b : Bool) (answer : Heard) (action : Action) (content : Option (List ℕ)) (first : Bool) → cond b (after_end answer) action ≡ run content first → b ≡ false
+heard-run : (b : Bool) (answer : Heard) (action : Action) (content : Option (List ℕ)) (first : Bool)
+    → cond b (after_end answer) action ≡ run content first → b ≡ false
 heard-run true answer action content first is = absurd (end-no_run answer content first is)
 heard-run false answer action content first is = refl
 
-after-run : (terms : Terms) (past : List Event) (t : ℕ) (content : Option (List ℕ)) (first : Bool) → act_after terms past t ≡ run content first → has_ended past ≡ false
+after-run : (terms : Terms) (past : List Event) (t : ℕ) (content : Option (List ℕ)) (first : Bool)
+    → act_after terms past t ≡ run content first → has_ended past ≡ false
 after-run terms [] t content first is = refl
-after-run terms (heard u request answer ∷ past) t content first is = heard-run (has_ended past) answer _ content first is
-after-run terms (ended ending ∷ past) t content first is = absurd (last-no_run terms (ending_ask terms.need (own_cookie past) ending) content first is)
-after-run terms (lost ∷ past) t content first is = absurd (loss-no_run (act_after terms past t) content first is)
+after-run terms (heard u request answer ∷ past) t content first is =
+    heard-run (has_ended past) answer _ content first is
+after-run terms (ended ending ∷ past) t content first is =
+    absurd (last-no_run terms (ending_ask terms.need (own_cookie past) ending) content first is)
+after-run terms (lost ∷ past) t content first is =
+    absurd (loss-no_run (act_after terms past t) content first is)
 
-pub runs-not_ended : (terms : Terms) (past : List Event) (t : ℕ) (content : Option (List ℕ)) (first : Bool) → act_of terms past t ≡ run content first → has_ended past ≡ false
-runs-not_ended terms past t content first is = sym (has_ended-reverse past) ∙ after-run terms (reverse past) t content first is
+pub runs-not_ended : (terms : Terms) (past : List Event) (t : ℕ) (content : Option (List ℕ))
+    (first : Bool) → act_of terms past t ≡ run content first → has_ended past ≡ false
+runs-not_ended terms past t content first is = sym (has_ended-reverse past)
+    ∙ after-run terms (reverse past) t content first is
 
 -- ---- the turns of a page
 
-pub turns_of-own : (number : ℕ) (turns : List Turn) (turn : Turn) → turn.page ≡ number → turns_of number (turns ++ turn ∷ []) ≡ turns_of number turns ++ turn ∷ []
+pub turns_of-own : (number : ℕ) (turns : List Turn) (turn : Turn) → turn.page ≡ number
+    → turns_of number (turns ++ turn ∷ []) ≡ turns_of number turns ++ turn ∷ []
 turns_of-own number turns turn own =
     filter-append (λ (other : Turn). other.page == number) turns (turn ∷ [])
     ∙ ap (λ b. turns_of number turns ++ cond b (turn ∷ []) []) (eq-eqb turn.page number own)
@@ -112,8 +129,10 @@ turns_of-own number turns turn own =
 module _ (CanCount : ℕ → Type 0) (t : ℕ) (held : ScriptPage)
   where
     -- what is printed may be said in other words
-    pub EachSteps-prints : (held' : ScriptPage) (desk desk' : DeskState) (P Q : List ℕ → Type 0) → ((words : List ℕ) → P words → Q words)
-        → EachSteps CanCount t held held' desk desk' P → EachSteps CanCount t held held' desk desk' Q
+    pub EachSteps-prints : (held' : ScriptPage) (desk desk' : DeskState) (P Q : List ℕ → Type 0)
+        → ((words : List ℕ) → P words → Q words)
+        → EachSteps CanCount t held held' desk desk' P
+        → EachSteps CanCount t held held' desk desk' Q
     EachSteps-prints held' desk desk' P Q more each number turns page stands desk_stands =
         let step = each number turns page stands desk_stands in record {
           events = step.events;
@@ -128,102 +147,147 @@ module _ (CanCount : ℕ → Type 0) (t : ℕ) (held : ScriptPage)
     -- a step that changes nothing
     pub quiet : (desk : DeskState) (action : Action) (words : List ℕ) (Prints : List ℕ → Type 0)
         → ((past : List Event) → HasPast held.visit past → action ≡ act_of held.visit.terms past t)
-        → ((number : ℕ) (ending : Ending) (turns : List Turn) → Acts action t number ending turns [] [] words) → Prints words
+        → ((number : ℕ) (ending : Ending) (turns : List Turn)
+        → Acts action t number ending turns [] [] words) → Prints words
         → EachSteps CanCount t held held desk desk Prints
     quiet desk action words Prints act acts prints number turns page stands desk_stands = record {
       events = [];
       asked = [];
       words = words;
       acts =
-          subst (λ a. Acts a t number page.ending turns [] [] words) (act page.past stands.past ∙ ap (λ terms. act_of terms page.past t) stands.terms)
+          subst (λ a. Acts a t number page.ending turns [] [] words)
+          (act page.past stands.past ∙ ap (λ terms. act_of terms page.past t) stands.terms)
           (acts number page.ending turns);
       page_stands =
-          subst (λ p. PageStands (turns ++ []) number held p) (ap (λ past. let p : Page = record page { past = past } in p) (sym (append-nil page.past)))
+          subst (λ p. PageStands (turns ++ []) number held p)
+          (ap (λ past. let p : Page = record page { past = past } in p)
+          (sym (append-nil page.past)))
           (subst (λ ts. PageStands ts number held page) (sym (append-nil turns)) stands);
       desk_stands = subst (DeskStands CanCount desk) (sym (append-nil turns)) desk_stands;
       prints = prints;
     }
 
     -- a request is sent, and its reply is heard
-    pub sent : (held' : ScriptPage) (desk desk' : DeskState) (request : Request) (reply : ReplyValue) (Prints : List ℕ → Type 0)
+    pub sent : (held' : ScriptPage) (desk desk' : DeskState) (request : Request)
+        (reply : ReplyValue) (Prints : List ℕ → Type 0)
         → held'.visit.terms ≡ held.visit.terms
-        → ((past : List Event) → HasPast held.visit past → act_of held.visit.terms past t ≡ send request)
-        → ((past : List Event) (sent : Request) → HasPast held.visit past → act_of held.visit.terms past t ≡ send sent → HasPast held'.visit (past ++ heard t sent (Reply reply) ∷ []))
+        → ((past : List Event) → HasPast held.visit past
+        → act_of held.visit.terms past t ≡ send request)
+        → ((past : List Event) (sent : Request) → HasPast held.visit past
+        → act_of held.visit.terms past t ≡ send sent
+        → HasPast held'.visit (past ++ heard t sent (Reply reply) ∷ []))
         → held'.name ≡ held.name → held'.ending ≡ held.ending → ReplyFits reply
-        → ((number : ℕ) (turns : List Turn) → DeskStands CanCount desk turns → DeskStands CanCount desk' (turns ++ turn_at number t request turns reply desk'.faults ∷ []))
+        → ((number : ℕ) (turns : List Turn) → DeskStands CanCount desk turns
+        → DeskStands CanCount desk' (turns ++ turn_at number t request turns reply desk'.faults
+        ∷ []))
         → Prints ((ask_spelling request.ask ++ codes " : ") ++ reply_spelling reply)
         → EachSteps CanCount t held held' desk desk' Prints
-    sent held' desk desk' request reply Prints terms act hears name ending fits answers prints number turns page stands desk_stands = record {
-      events = event_of turn ∷ [];
-      asked = turn ∷ [];
-      words = turn_words turn;
-      acts =
-          subst (λ a. Acts a t number page.ending turns (event_of turn ∷ []) (turn ∷ []) (turn_words turn)) (sym (act page.past stands.past) ∙ ap (λ terms. act_of terms page.past t) stands.terms)
-          (turn, record { page = refl; moment = refl; request = refl; drawn = refl; fits = fits }, refl, refl, refl);
-      page_stands = record {
-        name = name ∙ stands.name;
-        terms = terms ∙ stands.terms;
-        past = hears page.past request stands.past (act page.past stands.past);
-        ending = ending ∙ stands.ending ∙ ap (λ b. cond b None (Some page.ending)) (sym (has_ended-push page.past (event_of turn)));
-        own =
-            filter-append is_heard page.past (event_of turn ∷ []) ∙ ap (λ events. events ++ event_of turn ∷ []) stands.own
-            ∙ sym (map-append event_of (turns_of number turns) (turn ∷ [])) ∙ ap (map event_of) (sym (turns_of-own number turns turn refl));
-      };
-      desk_stands = answers number turns desk_stands;
-      prints = prints;
-    }
+    sent held' desk desk' request reply Prints terms act hears name ending fits answers prints
+        number turns page stands desk_stands = record {
+          events = event_of turn ∷ [];
+          asked = turn ∷ [];
+          words = turn_words turn;
+          acts =
+              subst (λ a. Acts a t number page.ending turns (event_of turn ∷ []) (turn ∷ [])
+              (turn_words turn)) (sym (act page.past stands.past)
+              ∙ ap (λ terms. act_of terms page.past t) stands.terms) (
+                turn,
+                record { page = refl; moment = refl; request = refl; drawn = refl; fits = fits },
+                refl,
+                refl,
+                refl,
+              );
+          page_stands = record {
+            name = name ∙ stands.name;
+            terms = terms ∙ stands.terms;
+            past = hears page.past request stands.past (act page.past stands.past);
+            ending = ending ∙ stands.ending ∙ ap (λ b. cond b None (Some page.ending))
+                (sym (has_ended-push page.past (event_of turn)));
+            own =
+                filter-append is_heard page.past (event_of turn ∷ [])
+                ∙ ap (λ events. events ++ event_of turn ∷ []) stands.own
+                ∙ sym (map-append event_of (turns_of number turns) (turn ∷ []))
+                ∙ ap (map event_of) (sym (turns_of-own number turns turn refl));
+          };
+          desk_stands = answers number turns desk_stands;
+          prints = prints;
+        }
       where
         turn : Turn
         turn = turn_at number t request turns reply desk'.faults
 
     -- a page runs, and its visit is told how it ends
-    pub ran : (held' : ScriptPage) (desk : DeskState) (content : Option (List ℕ)) (first : Bool) (Prints : List ℕ → Type 0)
-        → ((past : List Event) → HasPast held.visit past → run content first ≡ act_of held.visit.terms past t)
-        → ((number : ℕ) (turns : List Turn) (page : Page) (body : Option (List ℕ)) (mark : Bool) (u : ℕ) → PageStands turns number held page
-        → act_of page.terms page.past u ≡ run body mark → PageStands turns number held' (with_events page (ended page.ending ∷ [])))
+    pub ran : (held' : ScriptPage) (desk : DeskState) (content : Option (List ℕ)) (first : Bool)
+        (Prints : List ℕ → Type 0)
+        → ((past : List Event) → HasPast held.visit past
+        → run content first ≡ act_of held.visit.terms past t)
+        → ((number : ℕ) (turns : List Turn) (page : Page) (body : Option (List ℕ)) (mark : Bool)
+        (u : ℕ) → PageStands turns number held page
+        → act_of page.terms page.past u ≡ run body mark
+        → PageStands turns number held' (with_events page (ended page.ending ∷ [])))
         → Prints (run_words content first)
         → EachSteps CanCount t held held' desk desk Prints
     ran held' desk content first Prints act ends prints number turns page stands desk_stands =
-        let runs : act_of page.terms page.past t ≡ run content first = sym (act page.past stands.past ∙ ap (λ terms. act_of terms page.past t) stands.terms) in record {
+        let runs : act_of page.terms page.past t ≡ run content first =
+        sym (act page.past stands.past ∙ ap (λ terms. act_of terms page.past t) stands.terms) in
+        record {
           events = ended page.ending ∷ [];
           asked = [];
           words = run_words content first;
-          acts = subst (λ a. Acts a t number page.ending turns (ended page.ending ∷ []) [] (run_words content first)) (sym runs) (refl, refl, refl);
+          acts = subst (λ a. Acts a t number page.ending turns (ended page.ending ∷ []) []
+              (run_words content first)) (sym runs) (refl, refl, refl);
           page_stands =
-              subst (λ ts. PageStands ts number held' (with_events page (ended page.ending ∷ []))) (sym (append-nil turns)) (ends number turns page content first t stands runs);
+              subst (λ ts. PageStands ts number held' (with_events page (ended page.ending ∷ [])))
+              (sym (append-nil turns)) (ends number turns page content first t stands runs);
           desk_stands = subst (DeskStands CanCount desk) (sym (append-nil turns)) desk_stands;
           prints = prints;
         }
 
 -- the ending that is kept until the visit is told of it
-pub kept_ending : (held : ScriptPage) (turns : List Turn) (number : ℕ) (page : Page) (content : Option (List ℕ)) (first : Bool) (t : ℕ) → PageStands turns number held page
+pub kept_ending : (held : ScriptPage) (turns : List Turn) (number : ℕ) (page : Page)
+    (content : Option (List ℕ)) (first : Bool) (t : ℕ) → PageStands turns number held page
     → act_of page.terms page.past t ≡ run content first → held.ending ≡ Some page.ending
 kept_ending held turns number page content first t stands runs =
-    stands.ending ∙ ap (λ b. cond b None (Some page.ending)) (runs-not_ended page.terms page.past t content first runs)
+    stands.ending ∙ ap (λ b. cond b None (Some page.ending))
+    (runs-not_ended page.terms page.past t content first runs)
 
-pub finished : (held held' : ScriptPage) (ending : Ending) (turns : List Turn) (number : ℕ) (page : Page) (content : Option (List ℕ)) (first : Bool) (t : ℕ)
-    → PageStands turns number held page → act_of page.terms page.past t ≡ run content first → held.ending ≡ Some ending → held'.ending ≡ None → held'.name ≡ held.name
-    → held'.visit.terms ≡ held.visit.terms → ((past : List Event) → HasPast held.visit past → HasPast held'.visit (past ++ ended ending ∷ []))
+pub finished : (held held' : ScriptPage) (ending : Ending) (turns : List Turn) (number : ℕ)
+    (page : Page) (content : Option (List ℕ)) (first : Bool) (t : ℕ)
+    → PageStands turns number held page → act_of page.terms page.past t ≡ run content first
+    → held.ending ≡ Some ending → held'.ending ≡ None → held'.name ≡ held.name
+    → held'.visit.terms ≡ held.visit.terms → ((past : List Event) → HasPast held.visit past
+    → HasPast held'.visit (past ++ ended ending ∷ []))
     → PageStands turns number held' (with_events page (ended page.ending ∷ []))
-finished held held' ending turns number page content first t stands runs was is name terms ends = record {
-  name = name ∙ stands.name;
-  terms = terms ∙ stands.terms;
-  past = subst (λ (e : Ending). HasPast held'.visit (page.past ++ ended e ∷ [])) same (ends page.past stands.past);
-  ending = is ∙ ap (λ b. cond b None (Some page.ending)) (sym (has_ended-push page.past (ended page.ending)));
-  own = filter-append is_heard page.past (ended page.ending ∷ []) ∙ append-nil (filter is_heard page.past) ∙ stands.own;
-}
+finished held held' ending turns number page content first t stands runs was is name terms ends =
+    record {
+      name = name ∙ stands.name;
+      terms = terms ∙ stands.terms;
+      past = subst (λ (e : Ending). HasPast held'.visit (page.past ++ ended e ∷ [])) same
+          (ends page.past stands.past);
+      ending = is ∙ ap (λ b. cond b None (Some page.ending))
+          (sym (has_ended-push page.past (ended page.ending)));
+      own = filter-append is_heard page.past (ended page.ending ∷ [])
+          ∙ append-nil (filter is_heard page.past) ∙ stands.own;
+    }
   where
     same : ending ≡ page.ending
-    same = let both : Some ending ≡ Some page.ending = sym was ∙ kept_ending held turns number page content first t stands runs in cc
+    same = let both : Some ending ≡ Some page.ending = sym was
+        ∙ kept_ending held turns number page content first t stands runs in cc
 
 -- ---- the printed line
 
-pub line-joined : (out start printed head words : List ℕ) → start ≡ out ++ (head ++ codes " ") → printed ≡ start ++ (words ++ 10 ∷ []) → printed ≡ out ++ ((head ++ codes " " ++ words) ++ 10 ∷ [])
+pub line-joined : (out start printed head words : List ℕ) → start ≡ out ++ (head ++ codes " ")
+    → printed ≡ start ++ (words ++ 10 ∷ []) →
+    printed ≡ out ++ ((head ++ codes " " ++ words) ++ 10 ∷ [])
 line-joined out start printed head words is more =
-    more ∙ ap (λ s. s ++ (words ++ 10 ∷ [])) is ∙ append_assoc out (head ++ codes " ") (words ++ 10 ∷ [])
+    more ∙ ap (λ s. s ++ (words ++ 10 ∷ [])) is
+    ∙ append_assoc out (head ++ codes " ") (words ++ 10 ∷ [])
     ∙ ap (λ s. out ++ s) (sym (append_assoc (head ++ codes " ") words (10 ∷ [])))
 
-pub turn-joined : (out start printed ask reply : List ℕ) → start ≡ out ++ (ask ++ codes " : ") → printed ≡ start ++ (reply ++ 10 ∷ []) → printed ≡ out ++ (((ask ++ codes " : ") ++ reply) ++ 10 ∷ [])
+pub turn-joined : (out start printed ask reply : List ℕ) → start ≡ out ++ (ask ++ codes " : ")
+    → printed ≡ start ++ (reply ++ 10 ∷ []) →
+    printed ≡ out ++ (((ask ++ codes " : ") ++ reply) ++ 10 ∷ [])
 turn-joined out start printed ask reply is more =
-    more ∙ ap (λ s. s ++ (reply ++ 10 ∷ [])) is ∙ append_assoc out (ask ++ codes " : ") (reply ++ 10 ∷ [])
+    more ∙ ap (λ s. s ++ (reply ++ 10 ∷ [])) is
+    ∙ append_assoc out (ask ++ codes " : ") (reply ++ 10 ∷ [])
     ∙ ap (λ s. out ++ s) (sym (append_assoc (ask ++ codes " : ") reply (10 ∷ [])))

@@ -17,34 +17,55 @@ use Rattle.page_script.specs.Standing.{state_of, PageStands, PagesStand, Steps, 
 use Rattle.page_script.proofs.PlaceLemmas.{All-append, All-more, turns_of-none, PagesStand-length, IsFound, found, PagesStand-push, unused-no_name}
 
 -- a step asks only in its own page's name
-pub asked-own : (action : Action) (t number : ℕ) (ending : Ending) (turns : List Turn) (events : List Event) (asked : List Turn) (words : List ℕ)
-    → Acts action t number ending turns events asked words → AllByRecursion (λ (turn : Turn). turn.page ≡ number) asked
-asked-own (send request) t number ending turns events asked words acts = subst (AllByRecursion (λ (turn : Turn). turn.page ≡ number)) (sym acts.3) (acts.1.page, tt)
-asked-own (wait_until moment) t number ending turns events asked words acts = subst (AllByRecursion (λ (turn : Turn). turn.page ≡ number)) (sym acts.1) tt
-asked-own (run content first) t number ending turns events asked words acts = subst (AllByRecursion (λ (turn : Turn). turn.page ≡ number)) (sym acts.1) tt
-asked-own (over outcome) t number ending turns events asked words acts = subst (AllByRecursion (λ (turn : Turn). turn.page ≡ number)) (sym acts.1) tt
+pub asked-own : (action : Action) (t number : ℕ) (ending : Ending) (turns : List Turn)
+    (events : List Event) (asked : List Turn) (words : List ℕ)
+    → Acts action t number ending turns events asked words
+    → AllByRecursion (λ (turn : Turn). turn.page ≡ number) asked
+asked-own (send request) t number ending turns events asked words acts =
+    subst (AllByRecursion (λ (turn : Turn). turn.page ≡ number)) (sym acts.3) (acts.1.page, tt)
+asked-own (wait_until moment) t number ending turns events asked words acts =
+    subst (AllByRecursion (λ (turn : Turn). turn.page ≡ number)) (sym acts.1) tt
+asked-own (run content first) t number ending turns events asked words acts =
+    subst (AllByRecursion (λ (turn : Turn). turn.page ≡ number)) (sym acts.1) tt
+asked-own (over outcome) t number ending turns events asked words acts =
+    subst (AllByRecursion (λ (turn : Turn). turn.page ≡ number)) (sym acts.1) tt
 
-module _ {K : Type 0} (CanCount : ℕ → Type 0) (told : K → Option (List ℕ → Option Item)) (count : K → ℕ) (script script' : Script K) (world : World)
+module _ {K : Type 0} (CanCount : ℕ → Type 0) (told : K → Option (List ℕ → Option Item))
+    (count : K → ℕ) (script script' : Script K) (world : World)
     (stands : Stands CanCount told count script world)
   where
     -- a page that was named
-    pub page-taken : (line : PageLine) (held : ScriptPage) → IsUnused script.pages.items line.name → length script.pages.items < most_pages
+    pub page-taken : (line : PageLine) (held : ScriptPage) → IsUnused script.pages.items line.name
+        → length script.pages.items < most_pages
         → script'.pages.items ≡ script.pages.items ++ held ∷ []
-        → ((number : ℕ) (turns : List Turn) → turns_of number turns ≡ [] → PageStands turns number held (new_page script.limits line))
-        → script'.limits ≡ script.limits → state_of told count script'.desk ≡ state_of told count script.desk
+        → ((number : ℕ) (turns : List Turn) → turns_of number turns ≡ []
+        → PageStands turns number held (new_page script.limits line))
+        → script'.limits ≡ script.limits → state_of told count script'.desk
+        ≡ state_of told count script.desk
         → Takes CanCount told count script' world (lines.Page line) (λ printed. printed ≡ [])
     page-taken line held unused room items new limits desk = record {
       world' = record world { pages = world.pages ++ page ∷ [] };
       printed = [];
-      step = ((unused-no_name world.turns 0 script.pages.items world.pages line.name stands.pages unused, omega (arith, same)), refl, refl);
+      step = (
+        (
+          unused-no_name world.turns 0 script.pages.items world.pages line.name stands.pages
+              unused,
+          omega (arith, same),
+        ),
+        refl,
+        refl,
+      );
       stands = record {
         limits = limits ∙ stands.limits;
         pages =
             subst (λ helds. PagesStand world.turns 0 helds (world.pages ++ page ∷ [])) (sym items)
-            (PagesStand-push world.turns 0 (length world.pages) script.pages.items world.pages held page stands.pages (omega (arith, same))
-            (subst (λ (l : Limits). PageStands world.turns (length world.pages) held (new_page l line)) stands.limits (new (length world.pages) world.turns none)));
+            (PagesStand-push world.turns 0 (length world.pages) script.pages.items world.pages held
+            page stands.pages (omega (arith, same))
+            (subst (λ (l : Limits). PageStands world.turns (length world.pages) held
+            (new_page l line)) stands.limits (new (length world.pages) world.turns none)));
         numbered =
-            All-more (λ (turn : Turn). turn.page < length world.pages) (λ (turn : Turn). turn.page < length (world.pages ++ page ∷ [])) world.turns
+            All-more (λ (turn : Turn). turn.page < length world.pages)
+            (λ (turn : Turn). turn.page < length (world.pages ++ page ∷ [])) world.turns
             (λ turn below. omega (arith, length-append world.pages (page ∷ []))) stands.numbered;
         desk = rw desk stands.desk;
       };
@@ -59,18 +80,24 @@ module _ {K : Type 0} (CanCount : ℕ → Type 0) (told : K → Option (List ℕ
 
         none : turns_of (length world.pages) world.turns ≡ []
         none = turns_of-none (length world.pages) world.turns
-            (All-more (λ (turn : Turn). turn.page < length world.pages) (λ (turn : Turn). turn.page ≢ length world.pages) world.turns (λ turn below is. absurd (omega arith)) stands.numbered)
+            (All-more (λ (turn : Turn). turn.page < length world.pages)
+            (λ (turn : Turn). turn.page ≢ length world.pages) world.turns
+            (λ turn below is. absurd (omega arith)) stands.numbered)
 
     -- limits for the pages to come
-    pub limits-taken : (limits : Limits) (out : List ℕ) → script'.limits ≡ limits → script'.pages.items ≡ script.pages.items
-        → state_of told count script'.desk ≡ state_of told count script.desk → Takes CanCount told count script' world (lines.Limits limits) (λ printed. out ≡ out ++ printed)
+    pub limits-taken : (limits : Limits) (out : List ℕ) → script'.limits ≡ limits
+        → script'.pages.items ≡ script.pages.items
+        → state_of told count script'.desk ≡ state_of told count script.desk
+        → Takes CanCount told count script' world (lines.Limits limits)
+        (λ printed. out ≡ out ++ printed)
     limits-taken limits out is items desk = record {
       world' = record world { limits = limits };
       printed = [];
       step = (refl, refl);
       stands = record {
         limits = is;
-        pages = subst (λ helds. PagesStand world.turns 0 helds world.pages) (sym items) stands.pages;
+        pages = subst (λ helds. PagesStand world.turns 0 helds world.pages) (sym items)
+            stands.pages;
         numbered = stands.numbered;
         desk = rw desk stands.desk;
       };
@@ -78,16 +105,20 @@ module _ {K : Type 0} (CanCount : ℕ → Type 0) (told : K → Option (List ℕ
     }
 
     -- a step of the page at a place
-    module _ (t n : ℕ) (name : List ℕ) (held held' : ScriptPage) (inside : n < length script.pages.items) (is : held ≡ get_or script.pages.items n held)
-        (named : held.name ≡ name) (items : script'.pages.items ≡ set script.pages.items n held') (limits : script'.limits ≡ script.limits)
+    module _ (t n : ℕ) (name : List ℕ) (held held' : ScriptPage)
+        (inside : n < length script.pages.items) (is : held ≡ get_or script.pages.items n held)
+        (named : held.name ≡ name) (items : script'.pages.items ≡ set script.pages.items n held')
+        (limits : script'.limits ≡ script.limits)
       where
         at : 0 + n ≡ n
         at = omega arith
 
         there : IsFound world.turns 0 script.pages.items world.pages n n held
-        there = found world.turns 0 script.pages.items world.pages n n held stands.pages inside is at
+        there = found world.turns 0 script.pages.items world.pages n n held stands.pages inside is
+            at
 
-        step-taken : (P : List ℕ → Type 0) → Steps CanCount t n world.turns there.page held' (state_of told count script'.desk) (λ words. P (step_line t held.name words))
+        step-taken : (P : List ℕ → Type 0) → Steps CanCount t n world.turns there.page held'
+            (state_of told count script'.desk) (λ words. P (step_line t held.name words))
             → Takes CanCount told count script' world (lines.Step t name) P
         step-taken P step = record {
           world' = record world { pages = after; turns = world.turns ++ step.asked };
@@ -101,7 +132,9 @@ module _ {K : Type 0} (CanCount : ℕ → Type 0) (told : K → Option (List ℕ
             events = step.events;
             asked = step.asked;
             words = step.words;
-            acts = subst (λ k. Acts (act_of there.page.terms there.page.past t) t k there.page.ending world.turns step.events step.asked step.words) (sym there.count) step.acts;
+            acts = subst (λ k. Acts (act_of there.page.terms there.page.past t) t k
+                there.page.ending world.turns step.events step.asked step.words) (sym there.count)
+                step.acts;
             after = refl;
             printed = refl;
           };
@@ -109,11 +142,16 @@ module _ {K : Type 0} (CanCount : ℕ → Type 0) (told : K → Option (List ℕ
             limits = limits ∙ stands.limits;
             pages =
                 subst (λ helds. PagesStand (world.turns ++ step.asked) 0 helds after) (sym items)
-                (there.goes_on held' (with_events there.page step.events) step.asked own step.page_stands);
+                (there.goes_on held' (with_events there.page step.events) step.asked own
+                step.page_stands);
             numbered =
-                subst (λ k. AllByRecursion (λ (turn : Turn). turn.page < k) (world.turns ++ step.asked)) (sym long)
-                (All-append (λ (turn : Turn). turn.page < length world.pages) world.turns step.asked stands.numbered
-                (All-more (λ (turn : Turn). turn.page ≡ n) (λ (turn : Turn). turn.page < length world.pages) step.asked (λ turn e. omega (arith, below)) own));
+                subst (λ k. AllByRecursion (λ (turn : Turn). turn.page < k)
+                (world.turns ++ step.asked)) (sym long)
+                (All-append (λ (turn : Turn). turn.page < length world.pages) world.turns step.asked
+                stands.numbered
+                (All-more (λ (turn : Turn). turn.page ≡ n)
+                (λ (turn : Turn). turn.page < length world.pages) step.asked
+                (λ turn e. omega (arith, below)) own));
             desk = step.desk_stands;
           };
           prints = subst (λ letters. P (step_line t letters step.words)) named step.prints;
@@ -123,33 +161,45 @@ module _ {K : Type 0} (CanCount : ℕ → Type 0) (told : K → Option (List ℕ
             after = there.before ++ with_events there.page step.events ∷ there.behind
 
             own : AllByRecursion (λ (turn : Turn). turn.page ≡ n) step.asked
-            own = asked-own (act_of there.page.terms there.page.past t) t n there.page.ending world.turns step.events step.asked step.words step.acts
+            own = asked-own (act_of there.page.terms there.page.past t) t n there.page.ending
+                world.turns step.events step.asked step.words step.acts
 
             long : length after ≡ length world.pages
-            long = length-append there.before (with_events there.page step.events ∷ there.behind) ∙ sym (ap length there.place ∙ length-append there.before (there.page ∷ there.behind))
+            long = length-append there.before (with_events there.page step.events ∷ there.behind)
+                ∙ sym (ap length there.place ∙ length-append there.before
+                (there.page ∷ there.behind))
 
             below : n < length world.pages
-            below = let same = PagesStand-length world.turns 0 script.pages.items world.pages stands.pages in omega arith
+            below = let same = PagesStand-length world.turns 0 script.pages.items world.pages
+                stands.pages in omega arith
 
-        pub each-taken : (P : List ℕ → Type 0) → EachSteps CanCount t held held' (state_of told count script.desk) (state_of told count script'.desk) (λ words. P (step_line t held.name words))
+        pub each-taken : (P : List ℕ → Type 0)
+            → EachSteps CanCount t held held' (state_of told count script.desk)
+            (state_of told count script'.desk) (λ words. P (step_line t held.name words))
             → Takes CanCount told count script' world (lines.Step t name) P
         each-taken P each = step-taken P (each n world.turns there.page there.stands stands.desk)
 
         -- nothing has changed
-        step-stayed : Stays CanCount n world.turns there.page held' (state_of told count script'.desk) → Stands CanCount told count script' world
+        step-stayed : Stays CanCount n world.turns there.page held'
+            (state_of told count script'.desk) → Stands CanCount told count script' world
         step-stayed stays = record {
           limits = limits ∙ stands.limits;
           pages =
               subst (λ helds. PagesStand world.turns 0 helds world.pages) (sym items)
               (subst (PagesStand world.turns 0 (set script.pages.items n held')) (sym there.place)
-              (subst (λ ts. PagesStand ts 0 (set script.pages.items n held') (there.before ++ there.page ∷ there.behind)) (append-nil world.turns)
-              (there.goes_on held' there.page [] tt (subst (λ ts. PageStands ts n held' there.page) (sym (append-nil world.turns)) stays.page_stands))));
+              (subst (λ ts. PagesStand ts 0 (set script.pages.items n held')
+              (there.before ++ there.page ∷ there.behind)) (append-nil world.turns)
+              (there.goes_on held' there.page [] tt
+              (subst (λ ts. PageStands ts n held' there.page) (sym (append-nil world.turns))
+              stays.page_stands))));
           numbered = stands.numbered;
           desk = stays.desk_stands;
         }
 
-        pub may-taken : EachMayStep CanCount t held held' (state_of told count script.desk) (state_of told count script'.desk)
-            → Stands CanCount told count script' world ⊎ Takes CanCount told count script' world (lines.Step t name) (λ printed. ⊤)
+        pub may-taken : EachMayStep CanCount t held held' (state_of told count script.desk)
+            (state_of told count script'.desk)
+            → Stands CanCount told count script' world
+            ⊎ Takes CanCount told count script' world (lines.Step t name) (λ printed. ⊤)
         may-taken each = elim (each n world.turns there.page there.stands stands.desk) [
           | inl stays ↦ inl (step-stayed stays)
           | inr step ↦ inr (step-taken (λ printed. ⊤) step)

@@ -30,17 +30,20 @@ ending_words Abandon = codes "abandon"
 
 -- the words of a `limits` line behind its first one
 abbrev pub limits_words : Limits → List ℕ
-limits_words limits = decimal limits.execution_secs then decimal limits.poll_ms then decimal limits.polls
+limits_words limits = decimal limits.execution_secs then decimal limits.poll_ms then
+    decimal limits.polls
 
 -- the words of a `page` line behind its first one
 abbrev pub page_words : PageLine → List ℕ
-page_words page = page.name then bytes_word page.key then need_word page.need then ending_words page.ending
+page_words page = page.name then bytes_word page.key then need_word page.need then
+    ending_words page.ending
 
 -- the words of a `step` line behind its first one
 abbrev pub step_words : ℕ → List ℕ → List ℕ
 step_words moment name = decimal moment then name
 
--- the one spelling of a line, without its line feed: words with one space between two, numbers in decimal without
+-- the one spelling of a line, without its line feed: words with one space between two, numbers in
+-- decimal without
 -- leading zeros, bytes as `x` and two lower-case hexadecimal digits each
 abbrev pub line_text : Line → List ℕ
 line_text (lines.Limits limits) = codes "limits" then limits_words limits

@@ -1,4 +1,5 @@
--- The parts of a line, as texts that spell values: the contracts of the functions behind `read_line`.
+-- The parts of a line, as texts that spell values: the contracts of the functions behind
+-- `read_line`.
 use Rattle.std.specs.Prelude.{◌≡◌, ℕ, ◌≤◌, ◌^◌, List, ◌∷◌, ◌++◌, codes, decimal}
 use Rattle.asp_messages.specs.PlainSpelling.{◌then◌, bytes_word}
 use Rattle.asp_messages.specs.Ranges.{BodyFits, KeyFits, MinutesFit}

@@ -1,4 +1,5 @@
--- How a script stands for a world: its pages' visits for their pasts, and its desk for the turns so far.
+-- How a script stands for a world: its pages' visits for their pasts, and its desk for the turns so
+-- far.
 use Rattle.std.specs.Prelude.{◌≡◌, ◌⊎◌, ℕ, ◌+◌, ◌<◌, ◌≤◌, List, [], ◌∷◌, ◌++◌, length, map, filter, Option, Some, None, true, if◌then◌else◌, ⊤}
 use Rattle.std.specs.List.{AllByRecursion}
 use Rattle.asp_messages.specs.declared.request.Ask.{Ask}
@@ -26,7 +27,8 @@ pub record DeskState : Type 0 where
   pub faults : ℕ
   pub cookies : Counter
 
--- The desk stands for the turns: the keeper stands for their history, and the acquires among them drew the cookies before the next one.
+-- The desk stands for the turns: the keeper stands for their history, and the acquires among them
+-- drew the cookies before the next one.
 -- (CanCount says which counts of faults a keeper of this type can have.)
 pub record DeskStands (CanCount : ℕ → Type 0) (desk : DeskState) (turns : List Turn) : Type 0 where
   pub keeper : StandsFor nothing 0 (history turns) desk.told desk.faults
@@ -35,13 +37,20 @@ pub record DeskStands (CanCount : ℕ → Type 0) (desk : DeskState) (turns : Li
   pub cookie : desk.cookies.next ≡ counter_after 1 most_cookie (total_draws turns)
 
 -- the state of a desk, whose keeper tells and counts so
-abbrev pub state_of : {K : Type 0} → (K → Option (List ℕ → Option Item)) → (K → ℕ) → Desk K → DeskState
-state_of told count desk = record { told = told desk.shard; faults = count desk.shard; cookies = desk.cookies }
+abbrev pub state_of : {K : Type 0} → (K → Option (List ℕ → Option Item)) → (K → ℕ) → Desk K
+    → DeskState
+state_of told count desk = record {
+  told = told desk.shard;
+  faults = count desk.shard;
+  cookies =
+      desk.cookies;
+}
 
 -- The ask drew its cookie by counting.
 pub record Draws (old new : Counter) (ask : Ask) (drawn : ℕ) : Type 0 where
   pub nth : (count : ℕ) → old.next ≡ counter_after 1 most_cookie count
-      → (drawn ≡ drawn_after count ask) × (new.next ≡ counter_after 1 most_cookie (count + draws ask))
+      → (drawn ≡ drawn_after count ask) × (new.next
+      ≡ counter_after 1 most_cookie (count + draws ask))
   pub above : 0 < drawn → old.next ≤ drawn
   pub below : drawn < new.next
   pub rises : old.next ≤ new.next
@@ -60,9 +69,11 @@ turn_at number t request turns reply faults = record {
 
 -- ---- a page
 
--- A page of a script stands for the page of the world with this number: its visit has the page's past, the ending is kept until
+-- A page of a script stands for the page of the world with this number: its visit has the page's
+-- past, the ending is kept until
 -- the visit is told of it, and what the visit heard is the page's own turns.
-pub record PageStands (turns : List Turn) (number : ℕ) (held : ScriptPage) (page : Page) : Type 0 where
+pub record PageStands (turns : List Turn) (number : ℕ) (held : ScriptPage) (page : Page) : Type
+    0 where
   pub name : held.name ≡ page.name
   pub terms : held.visit.terms ≡ page.terms
   pub past : HasPast held.visit page.past
@@ -74,10 +85,13 @@ abbrev pub PagesStand : List Turn → ℕ → List ScriptPage → List Page → 
 PagesStand turns number [] [] = ⊤
 PagesStand turns number [] (page ∷ pages) = ⊥
 PagesStand turns number (held ∷ helds) [] = ⊥
-PagesStand turns number (held ∷ helds) (page ∷ pages) = PageStands turns number held page × PagesStand turns (number + 1) helds pages
+PagesStand turns number (held ∷ helds) (page ∷ pages) = PageStands turns number held page
+    × PagesStand turns (number + 1) helds pages
 
--- The page with this number took a step at the moment, behind these turns; what it prints meets the condition.
-pub record Steps (CanCount : ℕ → Type 0) (t number : ℕ) (turns : List Turn) (page : Page) (held' : ScriptPage) (desk' : DeskState) (Prints : List ℕ → Type 0) : Type 0 where
+-- The page with this number took a step at the moment, behind these turns; what it prints meets the
+-- condition.
+pub record Steps (CanCount : ℕ → Type 0) (t number : ℕ) (turns : List Turn) (page : Page)
+    (held' : ScriptPage) (desk' : DeskState) (Prints : List ℕ → Type 0) : Type 0 where
   pub events : List Event
   pub asked : List Turn
   pub words : List ℕ
@@ -86,22 +100,29 @@ pub record Steps (CanCount : ℕ → Type 0) (t number : ℕ) (turns : List Turn
   pub desk_stands : DeskStands CanCount desk' (turns ++ asked)
   pub prints : Prints words
 
--- each page of the world that the page of the script stood for, with the desk behind it, took the step
-abbrev pub EachSteps : (ℕ → Type 0) → ℕ → ScriptPage → ScriptPage → DeskState → DeskState → (List ℕ → Type 0) → Type 0
+-- each page of the world that the page of the script stood for, with the desk behind it, took the
+-- step
+abbrev pub EachSteps : (ℕ → Type 0) → ℕ → ScriptPage → ScriptPage → DeskState → DeskState
+    → (List ℕ → Type 0) → Type 0
 EachSteps CanCount t held held' desk desk' Prints =
-    (number : ℕ) (turns : List Turn) (page : Page) → PageStands turns number held page → DeskStands CanCount desk turns
+    (number : ℕ) (turns : List Turn) (page : Page) → PageStands turns number held page
+    → DeskStands CanCount desk turns
     → Steps CanCount t number turns page held' desk' Prints
 
 -- The page and the desk still stand for what they stood for.
-pub record Stays (CanCount : ℕ → Type 0) (number : ℕ) (turns : List Turn) (page : Page) (held' : ScriptPage) (desk' : DeskState) : Type 0 where
+pub record Stays (CanCount : ℕ → Type 0) (number : ℕ) (turns : List Turn) (page : Page)
+    (held' : ScriptPage) (desk' : DeskState) : Type 0 where
   pub page_stands : PageStands turns number held' page
   pub desk_stands : DeskStands CanCount desk' turns
 
--- each page of the world that the page of the script stood for, with the desk behind it, stayed or took the step
+-- each page of the world that the page of the script stood for, with the desk behind it, stayed or
+-- took the step
 abbrev pub EachMayStep : (ℕ → Type 0) → ℕ → ScriptPage → ScriptPage → DeskState → DeskState → Type 0
 EachMayStep CanCount t held held' desk desk' =
-    (number : ℕ) (turns : List Turn) (page : Page) → PageStands turns number held page → DeskStands CanCount desk turns
-    → Stays CanCount number turns page held' desk' ⊎ Steps CanCount t number turns page held' desk' (λ words. ⊤)
+    (number : ℕ) (turns : List Turn) (page : Page) → PageStands turns number held page
+    → DeskStands CanCount desk turns
+    → Stays CanCount number turns page held' desk'
+    ⊎ Steps CanCount t number turns page held' desk' (λ words. ⊤)
 
 -- ---- the script
 
@@ -114,14 +135,18 @@ abbrev pub IsOver : {K : Type 0} → Script K → Type 0
 IsOver script = script.is_over ≡ true
 
 -- The script stands for the world. (CanCount, told and count are those of the keeper's type.)
-pub record Stands {K : Type 0} (CanCount : ℕ → Type 0) (told : K → Option (List ℕ → Option Item)) (count : K → ℕ) (script : Script K) (world : World) : Type 0 where
+pub record Stands {K : Type 0} (CanCount : ℕ → Type 0) (told : K → Option (List ℕ → Option Item))
+    (count : K → ℕ) (script : Script K) (world : World) : Type 0 where
   pub limits : script.limits ≡ world.limits
   pub pages : PagesStand world.turns 0 script.pages.items world.pages
   pub numbered : AllByRecursion (λ turn. turn.page < length world.pages) world.turns
   pub desk : DeskStands CanCount (state_of told count script.desk) world.turns
 
--- The world takes the line: the script stands for the world after it, and what is printed for it meets the condition.
-pub record Takes {K : Type 0} (CanCount : ℕ → Type 0) (told : K → Option (List ℕ → Option Item)) (count : K → ℕ) (script' : Script K) (world : World) (line : Line) (Prints : List ℕ → Type 0) : Type 0 where
+-- The world takes the line: the script stands for the world after it, and what is printed for it
+-- meets the condition.
+pub record Takes {K : Type 0} (CanCount : ℕ → Type 0) (told : K → Option (List ℕ → Option Item))
+    (count : K → ℕ) (script' : Script K) (world : World) (line : Line) (Prints : List ℕ → Type 0) :
+    Type 0 where
   pub world' : World
   pub printed : List ℕ
   pub step : WorldStep world line world' printed
@@ -129,7 +154,9 @@ pub record Takes {K : Type 0} (CanCount : ℕ → Type 0) (told : K → Option (
   pub prints : Prints printed
 
 -- The text is a line, and the world takes it.
-pub record TakesText {K : Type 0} (CanCount : ℕ → Type 0) (told : K → Option (List ℕ → Option Item)) (count : K → ℕ) (script' : Script K) (world : World) (text : List ℕ) (Prints : List ℕ → Type 0) : Type 0 where
+pub record TakesText {K : Type 0} (CanCount : ℕ → Type 0) (told : K → Option (List ℕ → Option Item))
+    (count : K → ℕ) (script' : Script K) (world : World) (text : List ℕ)
+    (Prints : List ℕ → Type 0) : Type 0 where
   pub line : Line
   pub is_line : IsLine text line
   pub takes : Takes CanCount told count script' world line Prints

@@ -1,5 +1,7 @@
--- The world of a script: named pages that visit one state server by a schedule, and what is printed of it. Each page follows the
--- rule of a visit, and each request that it sends is one step of the session machine, whose reply it hears at once.
+-- The world of a script: named pages that visit one state server by a schedule, and what is printed
+-- of it. Each page follows the
+-- rule of a visit, and each request that it sends is one step of the session machine, whose reply
+-- it hears at once.
 use Rattle.std.specs.Prelude.{◌≡◌, ℕ, ◌+◌, ◌<◌, List, [], ◌∷◌, ◌++◌, length, map, filter, codes, decimal, unwrap_or, Option, Some, None, Bool, true, false, ◌==◌, ⊤}
 use Rattle.asp_messages.specs.declared.request.Request.{Request}
 use Rattle.asp_messages.specs.declared.request.Ask.{Ask}
@@ -34,7 +36,8 @@ pub record Page : Type 0 where
   pub ending : Ending
   pub past : List Event
 
--- A request that was sent: by which page, counted from 0, at which moment, with which cookie drawn for it (0 where none was),
+-- A request that was sent: by which page, counted from 0, at which moment, with which cookie drawn
+-- for it (0 where none was),
 -- how it was answered, and how many faults the keeper of the items had counted then.
 pub record Turn : Type 0 where
   pub page : ℕ
@@ -44,15 +47,21 @@ pub record Turn : Type 0 where
   pub reply : ReplyValue
   pub faults : ℕ
 
--- The limits of the pages to come, the pages in the order of their lines, and the requests that they sent, in order.
+-- The limits of the pages to come, the pages in the order of their lines, and the requests that
+-- they sent, in order.
 pub record World : Type 0 where
   pub limits : Limits
   pub pages : List Page
   pub turns : List Turn
 
--- the world before the first line: an execution timeout of 110 seconds, a poll each half second, at most 1,000 of them
+-- the world before the first line: an execution timeout of 110 seconds, a poll each half second, at
+-- most 1,000 of them
 abbrev pub empty_world : World
-empty_world = record { limits = record { execution_secs = 110; poll_ms = 500; polls = 1000 }; pages = []; turns = [] }
+empty_world = record {
+  limits = record { execution_secs = 110; poll_ms = 500; polls = 1000 };
+  pages = [];
+  turns = [];
+}
 
 -- the entry of a turn in the history of the items, where all pages are one caller
 abbrev pub entry_of : Turn → Entry
@@ -78,7 +87,8 @@ abbrev pub total_draws : List Turn → ℕ
 total_draws [] = 0
 total_draws (turn ∷ turns) = draws turn.request.ask + total_draws turns
 
--- what an ask draws after so many draws: each acquire draws one more than the acquire before it, from 1 on, and 0 past the last cookie
+-- what an ask draws after so many draws: each acquire draws one more than the acquire before it,
+-- from 1 on, and 0 past the last cookie
 abbrev pub drawn_after : ℕ → Ask → ℕ
 drawn_after count Acquire = unwrap_or (nth_cookie 1 most_cookie count) 0
 drawn_after count ask = 0
@@ -102,13 +112,18 @@ abbrev pub run_words : Option (List ℕ) → Bool → List ℕ
 run_words None first = codes "run none"
 run_words (Some content) first = codes "run" then flag_word first then bytes_word content
 
--- What a step of a page adds to its past and to the turns, and its words, where its visit's act is this:
--- a request is answered, and the answer is heard at once; a page that runs ends so in the same step; to wait, and to be over, changes nothing.
+-- What a step of a page adds to its past and to the turns, and its words, where its visit's act is
+-- this:
+-- a request is answered, and the answer is heard at once; a page that runs ends so in the same
+-- step; to wait, and to be over, changes nothing.
 abbrev pub Acts : Action → ℕ → ℕ → Ending → List Turn → List Event → List Turn → List ℕ → Type 0
 Acts (send request) t number ending turns events asked words =
-    (turn : Turn) × IsTurn number t request turns turn × (events ≡ event_of turn ∷ []) × (asked ≡ turn ∷ []) × (words ≡ turn_words turn)
-Acts (wait_until moment) t number ending turns events asked words = (events ≡ []) × (asked ≡ []) × (words ≡ codes "wait" then decimal moment)
-Acts (run content first) t number ending turns events asked words = (events ≡ ended ending ∷ []) × (asked ≡ []) × (words ≡ run_words content first)
+    (turn : Turn) × IsTurn number t request turns turn × (events ≡ event_of turn ∷ [])
+    × (asked ≡ turn ∷ []) × (words ≡ turn_words turn)
+Acts (wait_until moment) t number ending turns events asked words = (events ≡ []) × (asked ≡ [])
+    × (words ≡ codes "wait" then decimal moment)
+Acts (run content first) t number ending turns events asked words = (events ≡ ended ending ∷ [])
+    × (asked ≡ []) × (words ≡ run_words content first)
 Acts (over outcome) t number ending turns events asked words =
     (events ≡ []) × (asked ≡ []) × (words ≡ codes "over" then outcome_spelling outcome)
 
@@ -121,7 +136,8 @@ abbrev pub with_events : Page → List Event → Page
 with_events page events = record page { past = page.past ++ events }
 
 -- The page of this name takes a step at the moment, by the rule of its visit, and this is printed.
-pub record PageSteps (world : World) (t : ℕ) (name : List ℕ) (world' : World) (output : List ℕ) : Type 0 where
+pub record PageSteps (world : World) (t : ℕ) (name : List ℕ) (world' : World) (output : List ℕ) :
+    Type 0 where
   pub before : List Page
   pub page : Page
   pub behind : List Page
@@ -130,8 +146,13 @@ pub record PageSteps (world : World) (t : ℕ) (name : List ℕ) (world' : World
   pub events : List Event
   pub asked : List Turn
   pub words : List ℕ
-  pub acts : Acts (act_of page.terms page.past t) t (length before) page.ending world.turns events asked words
-  pub after : world' ≡ record world { pages = before ++ with_events page events ∷ behind; turns = world.turns ++ asked }
+  pub acts : Acts (act_of page.terms page.past t) t (length before) page.ending world.turns events
+      asked words
+  pub after : world' ≡ record world {
+    pages = before ++ with_events page events ∷ behind;
+    turns =
+        world.turns ++ asked;
+  }
   pub printed : output ≡ step_line t name words
 
 -- ---- one line, and many
@@ -147,30 +168,36 @@ new_page limits page = record {
 
 -- a page that is there has the name
 abbrev pub HasName : List Page → List ℕ → Type 0
-HasName pages name = (before : List Page) × (page : Page) × (behind : List Page) × (pages ≡ before ++ page ∷ behind) × (page.name ≡ name)
+HasName pages name = (before : List Page) × (page : Page) × (behind : List Page)
+    × (pages ≡ before ++ page ∷ behind) × (page.name ≡ name)
 
 -- a script has at most so many pages
 abbrev pub most_pages : ℕ
 most_pages = 64
 
--- The line may follow: a new page has a name that is not in use, and there is room for it; a step is that of a page that is there.
+-- The line may follow: a new page has a name that is not in use, and there is room for it; a step
+-- is that of a page that is there.
 abbrev pub MayFollow : World → Line → Type 0
 MayFollow world (lines.Limits limits) = ⊤
-MayFollow world (lines.Page page) = (HasName world.pages page.name → ⊥) × (length world.pages < most_pages)
+MayFollow world (lines.Page page) = (HasName world.pages page.name → ⊥)
+    × (length world.pages < most_pages)
 MayFollow world (lines.Step moment name) = HasName world.pages name
 
 -- the world after a line, and what is printed for it
 abbrev pub WorldStep : World → Line → World → List ℕ → Type 0
-WorldStep world (lines.Limits limits) world' output = (world' ≡ record world { limits = limits }) × (output ≡ [])
+WorldStep world (lines.Limits limits) world' output = (world' ≡ record world { limits = limits })
+    × (output ≡ [])
 WorldStep world (lines.Page page) world' output =
-    MayFollow world (lines.Page page) × (world' ≡ record world { pages = world.pages ++ new_page world.limits page ∷ [] }) × (output ≡ [])
+    MayFollow world (lines.Page page) × (world'
+    ≡ record world { pages = world.pages ++ new_page world.limits page ∷ [] }) × (output ≡ [])
 WorldStep world (lines.Step moment name) world' output = PageSteps world moment name world' output
 
 -- lines lead from world to world, and this is printed for them
 abbrev pub Leads : World → List Line → World → List ℕ → Type 0
 Leads world [] world' output = (world' ≡ world) × (output ≡ [])
 Leads world (line ∷ script) world' output =
-    (middle : World) × (first : List ℕ) × (rest : List ℕ) × WorldStep world line middle first × Leads middle script world' rest × (output ≡ first ++ rest)
+    (middle : World) × (first : List ℕ) × (rest : List ℕ) × WorldStep world line middle first
+    × Leads middle script world' rest × (output ≡ first ++ rest)
 
 -- the lines of a script lead to this world, and this is printed for them
 abbrev pub IsWorldRun : List Line → World → List ℕ → Type 0
@@ -188,17 +215,21 @@ is_heard (heard t request answer) = true
 is_heard (ended ending) = false
 is_heard lost = false
 
--- The page with this number follows the rule of its visit over its own past, and what it heard is its own turns, in order.
+-- The page with this number follows the rule of its visit over its own past, and what it heard is
+-- its own turns, in order.
 pub record IsLawfulPage (turns : List Turn) (number : ℕ) (page : Page) : Type 0 where
   pub lawful : IsLawful page.terms page.past
   pub own : filter is_heard page.past ≡ map event_of (turns_of number turns)
 
 -- each page is lawful
 abbrev pub IsLawfulWorld : World → Type 0
-IsLawfulWorld world = (before : List Page) (page : Page) (behind : List Page) → world.pages ≡ before ++ page ∷ behind → IsLawfulPage world.turns (length before) page
+IsLawfulWorld world = (before : List Page) (page : Page) (behind : List Page)
+    → world.pages ≡ before ++ page ∷ behind → IsLawfulPage world.turns (length before) page
 
--- The page with this number met a lock that is older than a page may run: its last event is the answer to its own ask that this lock
--- is in the way, and the lock was in force at that place of the history, and as old as the answer says.
+-- The page with this number met a lock that is older than a page may run: its last event is the
+-- answer to its own ask that this lock
+-- is in the way, and the lock was in force at that place of the history, and as old as the answer
+-- says.
 pub record MetOldLock (turns : List Turn) (number : ℕ) (page : Page) (cookie : ℕ) : Type 0 where
   pub met : MeetsOldLock page.terms page.past cookie
   pub before : List Turn
@@ -207,10 +238,14 @@ pub record MetOldLock (turns : List Turn) (number : ℕ) (page : Page) (cookie :
   pub place : turns ≡ before ++ turn ∷ behind
   pub own : turn.page ≡ number
   pub last : turns_of number behind ≡ []
-  pub answer : event_of turn ≡ heard met.moment (record { key = page.terms.key; ask = ask_of page.terms.need }) (Reply (Locked cookie met.age))
+  pub answer : event_of turn ≡ heard met.moment
+      (record { key = page.terms.key; ask = ask_of page.terms.need })
+      (Reply (Locked cookie met.age))
   pub in_force : IsInForceFor nothing 0 page.terms.key cookie met.age (history before) met.moment
 
 -- a page that releases a lock before its end met that lock, and it was old: a release by force
 abbrev pub ForcesOldLocks : World → Type 0
-ForcesOldLocks world = (before : List Page) (page : Page) (behind : List Page) (t cookie : ℕ) → world.pages ≡ before ++ page ∷ behind
-    → has_ended page.past ≡ false → act_of page.terms page.past t ≡ send_ask page.terms (Release cookie) → MetOldLock world.turns (length before) page cookie
+ForcesOldLocks world = (before : List Page) (page : Page) (behind : List Page) (t cookie : ℕ)
+    → world.pages ≡ before ++ page ∷ behind
+    → has_ended page.past ≡ false → act_of page.terms page.past t
+    ≡ send_ask page.terms (Release cookie) → MetOldLock world.turns (length before) page cookie

@@ -59,7 +59,8 @@ impl<K: Keeper> Desk<K> {
         requires request { RequestFits request }
         ensures answers { (number : ℕ) (turns : List Turn)
             → DeskStands K.can_count (state_of K.told K.count self.old) turns
-            → DeskStands K.can_count (state_of K.told K.count self.new) (turns ++ turn_at number t request turns result (K.count self.new.shard) ∷ []) }
+            → DeskStands K.can_count (state_of K.told K.count self.new)
+            (turns ++ turn_at number t request turns result (K.count self.new.shard) ∷ []) }
         ensures fits { ReplyFits result }
         ensures floor { K.floor self.new.shard ≡ K.floor self.old.shard }
     {

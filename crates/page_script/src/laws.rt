@@ -16,15 +16,20 @@ pub fn one_line()
 
 /// A run of the world goes on by one line.
 pub fn runs_go_on()
-    ensures { (script : List Line) (world : World) (output : List ℕ) (line : Line) (next : World) (printed : List ℕ) → IsWorldRun script world output
-        → WorldStep world line next printed → IsWorldRun (script ++ line ∷ []) next (output ++ printed) }
+    ensures { (script : List Line) (world : World) (output : List ℕ) (line : Line) (next : World)
+        (printed : List ℕ) → IsWorldRun script world output
+        → WorldStep world line next printed →
+        IsWorldRun (script ++ line ∷ []) next (output ++ printed) }
 {}
 
 /// In each world of a run each page follows the rule of its visit over its own past. Where the
 /// history of the run is legal, a page that releases a lock before its end met that lock, which was
 /// in force, and older than a page may run.
 pub fn pages_keep_their_rule()
-    ensures lawful { (script : List Line) (world : World) (output : List ℕ) → AllByRecursion LineFits script → IsWorldRun script world output → IsLawfulWorld world }
-    ensures forced { (script rest : List Line) (world last : World) (output more : List ℕ) → AllByRecursion LineFits script → IsWorldRun script world output
-        → Leads world rest last more → IsLegal nothing 0 (history last.turns) → ForcesOldLocks world }
+    ensures lawful { (script : List Line) (world : World) (output : List ℕ)
+        → AllByRecursion LineFits script → IsWorldRun script world output → IsLawfulWorld world }
+    ensures forced { (script rest : List Line) (world last : World) (output more : List ℕ)
+        → AllByRecursion LineFits script → IsWorldRun script world output
+        → Leads world rest last more → IsLegal nothing 0 (history last.turns)
+        → ForcesOldLocks world }
 {}

@@ -1,8 +1,8 @@
-//! Page scripts: the lines of a script, read from their text, and the world in which they run, where
+//! Page scripts: the lines of a script, read from their text, and the world in which they run,
+//! where
 //! many pages visit one state server by a schedule.
 #![tactic(auto)]
 
-mod copying;
 mod desk;
 mod laws;
 mod line;

@@ -74,7 +74,8 @@ fn read_save(alloc: Global, text: &[u8]) -> Result<Option<(u64, Bytes)>, NoMemor
 // An ending that saves nothing.
 fn read_bare_ending(text: &[u8]) -> Option<Ending>
     ensures some { IfSome result (IsEnding text.now) }
-    ensures none { IfNone result ((text.now ≢ ending_words Ending.Keep) × (text.now ≢ ending_words Ending.Abandon)) }
+    ensures none { IfNone result ((text.now ≢ ending_words Ending.Keep)
+        × (text.now ≢ ending_words Ending.Abandon)) }
 {
     match text {
         b"keep" => Some(Ending::Keep),

@@ -97,11 +97,17 @@ impl<K: Keeper> Script<K> {
     /// A new page.
     fn add_page(&mut self, line: PageLine) -> LineEnd
         requires { PageFits line }
-        ensures done { result ≡ LineEnd.Done → (world : World) → Stands K.can_count K.told K.count self.old world
-            → Takes K.can_count K.told K.count self.new world (Line.Page line) (λ printed. printed ≡ []) }
-        ensures not_a_line { result ≡ LineEnd.NotALine → (world : World) → Stands K.can_count K.told K.count self.old world → MayFollow world (Line.Page line) → ⊥ }
+        ensures done { result ≡ LineEnd.Done → (world : World)
+            → Stands K.can_count K.told K.count self.old world
+            → Takes K.can_count K.told K.count self.new world (Line.Page line)
+            (λ printed. printed ≡ []) }
+        ensures not_a_line { result ≡ LineEnd.NotALine → (world : World)
+            → Stands K.can_count K.told K.count self.old world → MayFollow world (Line.Page line)
+            → ⊥ }
         ensures unchanged { result ≡ LineEnd.NotALine → self.new ≡ self.old }
-        ensures no_memory { result ≡ LineEnd.NoMemory → (world : World) → Stands K.can_count K.told K.count self.old world → Stands K.can_count K.told K.count self.new world }
+        ensures no_memory { result ≡ LineEnd.NoMemory → (world : World)
+            → Stands K.can_count K.told K.count self.old world
+            → Stands K.can_count K.told K.count self.new world }
         ensures is_over { result ≡ LineEnd.NoMemory → IsOver self.new }
         ensures goes_on { result ≡ LineEnd.Done → IsOver self.new → IsOver self.old }
         ensures keeper { keeper_of self.new ≡ keeper_of self.old }
@@ -122,12 +128,19 @@ impl<K: Keeper> Script<K> {
     /// One step of the page of this name.
     fn step(&mut self, t: u64, name: Name, out: &mut Vec<u8>) -> LineEnd
         requires { t ≤ 2 ^ 62 }
-        ensures done { result ≡ LineEnd.Done → (world : World) → Stands K.can_count K.told K.count self.old world
-            → Takes K.can_count K.told K.count self.new world (Line.Step t name) (λ printed. out.new.items ≡ out.old.items ++ printed) }
-        ensures not_a_line { result ≡ LineEnd.NotALine → (world : World) → Stands K.can_count K.told K.count self.old world → MayFollow world (Line.Step t name) → ⊥ }
+        ensures done { result ≡ LineEnd.Done → (world : World)
+            → Stands K.can_count K.told K.count self.old world
+            → Takes K.can_count K.told K.count self.new world (Line.Step t name)
+            (λ printed. out.new.items ≡ out.old.items ++ printed) }
+        ensures not_a_line { result ≡ LineEnd.NotALine → (world : World)
+            → Stands K.can_count K.told K.count self.old world → MayFollow world (Line.Step t name)
+            → ⊥ }
         ensures unchanged { result ≡ LineEnd.NotALine → self.new ≡ self.old }
-        ensures no_memory { result ≡ LineEnd.NoMemory → (world : World) → Stands K.can_count K.told K.count self.old world
-            → Stands K.can_count K.told K.count self.new world ⊎ Takes K.can_count K.told K.count self.new world (Line.Step t name) (λ printed. ⊤) }
+        ensures no_memory { result ≡ LineEnd.NoMemory → (world : World)
+            → Stands K.can_count K.told K.count self.old world
+            → Stands K.can_count K.told K.count self.new world
+            ⊎ Takes K.can_count K.told K.count self.new world (Line.Step t name)
+            (λ printed. ⊤) }
         ensures is_over { result ≡ LineEnd.NoMemory → IsOver self.new }
         ensures goes_on { result ≡ LineEnd.Done → IsOver self.new → IsOver self.old }
         ensures same { (result ≡ LineEnd.Done → ⊥) → out.new.items ≡ out.old.items }
@@ -148,12 +161,17 @@ impl<K: Keeper> Script<K> {
     /// One line.
     fn run(&mut self, line: Line, out: &mut Vec<u8>) -> LineEnd
         requires { LineFits line }
-        ensures done { result ≡ LineEnd.Done → (world : World) → Stands K.can_count K.told K.count self.old world
-            → Takes K.can_count K.told K.count self.new world line (λ printed. out.new.items ≡ out.old.items ++ printed) }
-        ensures not_a_line { result ≡ LineEnd.NotALine → (world : World) → Stands K.can_count K.told K.count self.old world → MayFollow world line → ⊥ }
+        ensures done { result ≡ LineEnd.Done → (world : World)
+            → Stands K.can_count K.told K.count self.old world
+            → Takes K.can_count K.told K.count self.new world line
+            (λ printed. out.new.items ≡ out.old.items ++ printed) }
+        ensures not_a_line { result ≡ LineEnd.NotALine → (world : World)
+            → Stands K.can_count K.told K.count self.old world → MayFollow world line → ⊥ }
         ensures unchanged { result ≡ LineEnd.NotALine → self.new ≡ self.old }
-        ensures no_memory { result ≡ LineEnd.NoMemory → (world : World) → Stands K.can_count K.told K.count self.old world
-            → Stands K.can_count K.told K.count self.new world ⊎ Takes K.can_count K.told K.count self.new world line (λ printed. ⊤) }
+        ensures no_memory { result ≡ LineEnd.NoMemory → (world : World)
+            → Stands K.can_count K.told K.count self.old world
+            → Stands K.can_count K.told K.count self.new world
+            ⊎ Takes K.can_count K.told K.count self.new world line (λ printed. ⊤) }
         ensures is_over { result ≡ LineEnd.NoMemory → IsOver self.new }
         ensures goes_on { result ≡ LineEnd.Done → IsOver self.new → IsOver self.old }
         ensures same { (result ≡ LineEnd.Done → ⊥) → out.new.items ≡ out.old.items }
@@ -169,28 +187,39 @@ impl<K: Keeper> Script<K> {
         }
     }
 
-    /// Runs one line, without its line feed, and appends what is printed for it. After `NoMemory` the
+    /// Runs one line, without its line feed, and appends what is printed for it. After `NoMemory`
+    /// the
     /// script is over, and each later line answers `NoMemory`; the last step was made or not.
     pub fn line(&mut self, text: &[u8], out: &mut Vec<u8>) -> LineEnd
-        // Each world that the script stands for takes the line, and what is printed for it was appended.
-        ensures done { result ≡ LineEnd.Done → (world : World) → Stands K.can_count K.told K.count self.old world
-            → TakesText K.can_count K.told K.count self.new world text.now (λ printed. out.new.items ≡ out.old.items ++ printed) }
+        // Each world that the script stands for takes the line, and what is printed for it was
+        // appended.
+        ensures done { result ≡ LineEnd.Done → (world : World)
+            → Stands K.can_count K.told K.count self.old world
+            → TakesText K.can_count K.told K.count self.new world text.now
+            (λ printed. out.new.items ≡ out.old.items ++ printed) }
         ensures goes_on { result ≡ LineEnd.Done → IsOver self.new → ⊥ }
 
         // In no world that the script stands for may such a line follow; nothing changed.
-        ensures not_a_line { result ≡ LineEnd.NotALine → (world : World) (line : Line) → Stands K.can_count K.told K.count self.old world → IsLine text.now line → MayFollow world line → ⊥ }
+        ensures not_a_line { result ≡ LineEnd.NotALine → (world : World) (line : Line)
+            → Stands K.can_count K.told K.count self.old world → IsLine text.now line
+            → MayFollow world line → ⊥ }
         ensures unchanged { result ≡ LineEnd.NotALine → self.new ≡ self.old }
 
         // For want of memory each world stayed, or took the line without a print.
-        ensures no_memory { result ≡ LineEnd.NoMemory → (world : World) → Stands K.can_count K.told K.count self.old world
-            → Stands K.can_count K.told K.count self.new world ⊎ TakesText K.can_count K.told K.count self.new world text.now (λ printed. ⊤) }
+        ensures no_memory { result ≡ LineEnd.NoMemory → (world : World)
+            → Stands K.can_count K.told K.count self.old world
+            → Stands K.can_count K.told K.count self.new world
+            ⊎ TakesText K.can_count K.told K.count self.new world text.now (λ printed. ⊤) }
         ensures is_over { result ≡ LineEnd.NoMemory → IsOver self.new }
         ensures stays_over { IsOver self.old → (result ≡ LineEnd.NoMemory) × (self.new ≡ self.old) }
         ensures same { (result ≡ LineEnd.Done → ⊥) → out.new.items ≡ out.old.items }
 
-        // Each page follows the rule of its visit over its own past, and releases by force only a lock that is in force and old.
-        ensures lawful { (world : World) → Stands K.can_count K.told K.count self.old world → IsLawfulWorld world }
-        ensures forced { (world : World) → Stands K.can_count K.told K.count self.old world → IfTold (K.told (keeper_of self.old)) (ForcesOldLocks world) }
+        // Each page follows the rule of its visit over its own past, and releases by force only a
+        // lock that is in force and old.
+        ensures lawful { (world : World) → Stands K.can_count K.told K.count self.old world
+            → IsLawfulWorld world }
+        ensures forced { (world : World) → Stands K.can_count K.told K.count self.old world
+            → IfTold (K.told (keeper_of self.old)) (ForcesOldLocks world) }
         ensures floor { K.floor (keeper_of self.new) ≡ K.floor (keeper_of self.old) }
     {
         if self.is_over {
@@ -206,13 +235,18 @@ impl<K: Keeper> Script<K> {
         }
     }
 
-    /// The keeper, with the items and the count of faults after the history of the script's requests.
+    /// The keeper, with the items and the count of faults after the history of the script's
+    /// requests.
     pub fn into_keeper(self) -> K
         ensures keeper { result ≡ keeper_of self }
-        ensures history { (world : World) → Stands K.can_count K.told K.count self world → StandsFor nothing 0 (history world.turns) (K.told result) (K.count result) }
-        ensures counts { (world : World) → Stands K.can_count K.told K.count self world → AllByRecursion (λ turn. K.can_count turn.faults) world.turns }
-        ensures lawful { (world : World) → Stands K.can_count K.told K.count self world → IsLawfulWorld world }
-        ensures forced { (world : World) → Stands K.can_count K.told K.count self world → IfTold (K.told result) (ForcesOldLocks world) }
+        ensures history { (world : World) → Stands K.can_count K.told K.count self world
+            → StandsFor nothing 0 (history world.turns) (K.told result) (K.count result) }
+        ensures counts { (world : World) → Stands K.can_count K.told K.count self world
+            → AllByRecursion (λ turn. K.can_count turn.faults) world.turns }
+        ensures lawful { (world : World) → Stands K.can_count K.told K.count self world
+            → IsLawfulWorld world }
+        ensures forced { (world : World) → Stands K.can_count K.told K.count self world
+            → IfTold (K.told result) (ForcesOldLocks world) }
     {
         self.desk.shard.into_keeper()
     }

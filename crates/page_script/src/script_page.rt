@@ -3,12 +3,11 @@ ghost use Rattle.std.specs.Prelude.{IfSome};
 ghost use Rattle.visit_core.specs.Terms.{EndingFits};
 ghost use Rattle.page_script.specs.Endings.{ending_fits-prop};
 
-use crate::copying::copy_request;
 use crate::desk::Desk;
-use crate::text::{or_undo, push_ask, push_over, push_reply, push_run, push_start, push_wait};
+use crate::text::{push_ask, push_over, push_reply, push_run, push_start, push_wait};
 use crate::{Name, PageLine};
 use asp_base::NoMemory;
-use asp_messages::Request;
+use asp_messages::{Request, or_undo};
 use keeper::Keeper;
 use std::alloc::Global;
 use visit_core::{Act, Ending, Heard, Limits, Visit};
@@ -39,7 +38,8 @@ impl ScriptPage {
     pub fn new(limits: Limits, line: PageLine) -> ScriptPage
         requires limits { LimitsFit limits }
         requires line { PageFits line }
-        ensures { (number : ℕ) (turns : List Turn) → turns_of number turns ≡ [] → PageStands turns number result (new_page limits line) }
+        ensures { (number : ℕ) (turns : List Turn) → turns_of number turns ≡ []
+            → PageStands turns number result (new_page limits line) }
     {
         ScriptPage {
             name: line.name,
@@ -59,10 +59,13 @@ impl ScriptPage {
         requires moment { t ≤ 2 ^ 62 }
         requires request { RequestFits request }
         requires sends { Sends self.old.visit t }
-        requires acts { (past : List Event) → HasPast self.old.visit past → act_of self.old.visit.terms past t ≡ send request }
-        ensures ok { OnOk result (EachSteps K.can_count t self.old self.new (state_of K.told K.count desk.old) (state_of K.told K.count desk.new)
+        requires acts { (past : List Event) → HasPast self.old.visit past
+            → act_of self.old.visit.terms past t ≡ send request }
+        ensures ok { OnOk result (EachSteps K.can_count t self.old self.new
+            (state_of K.told K.count desk.old) (state_of K.told K.count desk.new)
             (λ words. out.new.items ≡ out.old.items ++ (words ++ 10 ∷ []))) }
-        ensures err { OnErr result (EachMayStep K.can_count t self.old self.new (state_of K.told K.count desk.old) (state_of K.told K.count desk.new)) }
+        ensures err { OnErr result (EachMayStep K.can_count t self.old self.new
+            (state_of K.told K.count desk.old) (state_of K.told K.count desk.new)) }
         ensures extends { OnErr result (Extends out.old.items out.new.items) }
         ensures floor { K.floor desk.new.shard ≡ K.floor desk.old.shard }
     {
@@ -76,8 +79,10 @@ impl ScriptPage {
     /// Tells the visit, which runs, how the page ends, once.
     fn finish(&mut self)
         requires runs { Runs self.old.visit }
-        ensures { (number : ℕ) (turns : List Turn) (page : Page) (content : Option (List ℕ)) (first : Bool) (t : ℕ) → PageStands turns number self.old page
-            → act_of page.terms page.past t ≡ run content first → PageStands turns number self.new (with_events page (ended page.ending ∷ [])) }
+        ensures { (number : ℕ) (turns : List Turn) (page : Page) (content : Option (List ℕ))
+            (first : Bool) (t : ℕ) → PageStands turns number self.old page
+            → act_of page.terms page.past t ≡ run content first
+            → PageStands turns number self.new (with_events page (ended page.ending ∷ [])) }
     {
         if let Some(ending) = self.ending.take() {
             self.visit.finish(ending);
@@ -93,16 +98,18 @@ impl ScriptPage {
         out: &mut Vec<u8>,
     ) -> Result<(), NoMemory>
         requires { t ≤ 2 ^ 62 }
-        ensures ok { OnOk result (EachSteps K.can_count t self.old self.new (state_of K.told K.count desk.old) (state_of K.told K.count desk.new)
+        ensures ok { OnOk result (EachSteps K.can_count t self.old self.new
+            (state_of K.told K.count desk.old) (state_of K.told K.count desk.new)
             (λ words. out.new.items ≡ out.old.items ++ step_line t self.old.name words)) }
-        ensures err { OnErr result (EachMayStep K.can_count t self.old self.new (state_of K.told K.count desk.old) (state_of K.told K.count desk.new)) }
+        ensures err { OnErr result (EachMayStep K.can_count t self.old self.new
+            (state_of K.told K.count desk.old) (state_of K.told K.count desk.new)) }
         ensures extends { OnErr result (Extends out.old.items out.new.items) }
         ensures floor { K.floor desk.new.shard ≡ K.floor desk.old.shard }
     {
         push_start(out, t, self.name.as_slice())?;
         match self.visit.next(t) {
             Act::Send(request) => {
-                let request = copy_request(alloc, request)?;
+                let request = request.copy(alloc)?;
                 self.send(desk, t, request, out)
             }
             Act::WaitUntil(moment) => push_wait(out, moment),
@@ -126,9 +133,11 @@ impl ScriptPage {
         out: &mut Vec<u8>,
     ) -> Result<(), NoMemory>
         requires { t ≤ 2 ^ 62 }
-        ensures ok { OnOk result (EachSteps K.can_count t self.old self.new (state_of K.told K.count desk.old) (state_of K.told K.count desk.new)
+        ensures ok { OnOk result (EachSteps K.can_count t self.old self.new
+            (state_of K.told K.count desk.old) (state_of K.told K.count desk.new)
             (λ words. out.new.items ≡ out.old.items ++ step_line t self.old.name words)) }
-        ensures err { OnErr result (EachMayStep K.can_count t self.old self.new (state_of K.told K.count desk.old) (state_of K.told K.count desk.new)) }
+        ensures err { OnErr result (EachMayStep K.can_count t self.old self.new
+            (state_of K.told K.count desk.old) (state_of K.told K.count desk.new)) }
         ensures same { OnErr result (out.new.items ≡ out.old.items) }
         ensures floor { K.floor desk.new.shard ≡ K.floor desk.old.shard }
     {

@@ -8,44 +8,13 @@ ghost use Rattle.visit_core.specs.OutcomeText.{outcome_spelling};
 ghost use Rattle.page_script.specs.World.{run_words};
 
 use asp_base::{Bytes, NoMemory};
-use asp_messages::{Ask, Reply, spell_ask, spell_reply};
-use itoa::Buffer;
+use asp_messages::{Ask, Reply, push, push_hex, push_number, spell_ask, spell_reply};
 use visit_core::{Outcome, outcome_text};
-
-const DIGITS: [u8; 16] = *b"0123456789abcdef";
-
-fn push(out: &mut Vec<u8>, text: &[u8]) -> Result<(), NoMemory>
-    ensures ok { OnOk result (out.new.items ≡ out.old.items ++ text.now) }
-    ensures err { OnErr result (Extends out.old.items out.new.items) }
-{
-    out.extend_from_slice(text)?;
-    Ok(())
-}
-
-fn push_number(out: &mut Vec<u8>, n: u64) -> Result<(), NoMemory>
-    ensures ok { OnOk result (out.new.items ≡ out.old.items ++ decimal n) }
-    ensures err { OnErr result (Extends out.old.items out.new.items) }
-{
-    let mut buffer = Buffer::new();
-    push(out, buffer.format(n).as_bytes())
-}
-
-fn push_hex(out: &mut Vec<u8>, bytes: &[u8]) -> Result<(), NoMemory>
-    ensures ok { OnOk result (out.new.items ≡ out.old.items ++ encode_lower bytes.now) }
-    ensures err { OnErr result (Extends out.old.items out.new.items) }
-{
-    for byte in bytes {
-        push(
-            out,
-            &[DIGITS[(byte / 16) as usize], DIGITS[(byte % 16) as usize]],
-        )?;
-    }
-    Ok(())
-}
 
 /// The moment of a step and the page's name, and a space.
 pub fn push_start(out: &mut Vec<u8>, t: u64, name: &[u8]) -> Result<(), NoMemory>
-    ensures ok { OnOk result (out.new.items ≡ out.old.items ++ ((decimal t then name.now) ++ codes " ")) }
+    ensures ok { OnOk result (out.new.items ≡ out.old.items
+        ++ ((decimal t then name.now) ++ codes " ")) }
     ensures err { OnErr result (Extends out.old.items out.new.items) }
 {
     push_number(out, t)?;
@@ -56,7 +25,8 @@ pub fn push_start(out: &mut Vec<u8>, t: u64, name: &[u8]) -> Result<(), NoMemory
 
 /// A wait until this moment, and a line feed.
 pub fn push_wait(out: &mut Vec<u8>, moment: u64) -> Result<(), NoMemory>
-    ensures ok { OnOk result (out.new.items ≡ out.old.items ++ ((codes "wait" then decimal moment) ++ 10 ∷ [])) }
+    ensures ok { OnOk result (out.new.items ≡ out.old.items
+        ++ ((codes "wait" then decimal moment) ++ 10 ∷ [])) }
     ensures err { OnErr result (Extends out.old.items out.new.items) }
 {
     push(out, b"wait ")?;
@@ -66,7 +36,8 @@ pub fn push_wait(out: &mut Vec<u8>, moment: u64) -> Result<(), NoMemory>
 
 /// A page that runs on this content and its first mark, and a line feed.
 pub fn push_run(out: &mut Vec<u8>, content: Option<&Bytes>, first: bool) -> Result<(), NoMemory>
-    ensures ok { OnOk result (out.new.items ≡ out.old.items ++ (run_words (option_copied content.entry) first ++ 10 ∷ [])) }
+    ensures ok { OnOk result (out.new.items ≡ out.old.items
+        ++ (run_words (option_copied content.entry) first ++ 10 ∷ [])) }
     ensures err { OnErr result (Extends out.old.items out.new.items) }
 {
     match content {
@@ -81,7 +52,8 @@ pub fn push_run(out: &mut Vec<u8>, content: Option<&Bytes>, first: bool) -> Resu
 
 /// The outcome of a visit, and a line feed.
 pub fn push_over(out: &mut Vec<u8>, outcome: &Outcome) -> Result<(), NoMemory>
-    ensures ok { OnOk result (out.new.items ≡ out.old.items ++ ((codes "over" then outcome_spelling outcome.now) ++ 10 ∷ [])) }
+    ensures ok { OnOk result (out.new.items ≡ out.old.items
+        ++ ((codes "over" then outcome_spelling outcome.now) ++ 10 ∷ [])) }
     ensures err { OnErr result (Extends out.old.items out.new.items) }
 {
     push(out, b"over ")?;
@@ -91,7 +63,8 @@ pub fn push_over(out: &mut Vec<u8>, outcome: &Outcome) -> Result<(), NoMemory>
 
 /// An ask, and what separates it from its reply.
 pub fn push_ask(out: &mut Vec<u8>, ask: &Ask) -> Result<(), NoMemory>
-    ensures ok { OnOk result (out.new.items ≡ out.old.items ++ (ask_spelling ask.now ++ codes " : ")) }
+    ensures ok { OnOk result (out.new.items ≡ out.old.items
+        ++ (ask_spelling ask.now ++ codes " : ")) }
     ensures err { OnErr result (Extends out.old.items out.new.items) }
 {
     spell_ask(out, ask)?;
@@ -100,20 +73,10 @@ pub fn push_ask(out: &mut Vec<u8>, ask: &Ask) -> Result<(), NoMemory>
 
 /// A reply, and a line feed.
 pub fn push_reply(out: &mut Vec<u8>, reply: &Reply) -> Result<(), NoMemory>
-    ensures ok { OnOk result (out.new.items ≡ out.old.items ++ (reply_spelling reply.now ++ 10 ∷ [])) }
+    ensures ok { OnOk result (out.new.items ≡ out.old.items
+        ++ (reply_spelling reply.now ++ 10 ∷ [])) }
     ensures err { OnErr result (Extends out.old.items out.new.items) }
 {
     spell_reply(out, reply)?;
     push(out, b"\n")
-}
-
-/// After a failure, takes off what was appended since the buffer had this length.
-pub fn or_undo(written: Result<(), NoMemory>, out: &mut Vec<u8>, len: usize) -> Result<(), NoMemory>
-    ensures result { result ≡ written }
-    ensures items { out.new.items ≡ (if is_ok written then out.old.items else take len out.old.items) }
-{
-    if written.is_err() {
-        out.truncate(len);
-    }
-    written
 }

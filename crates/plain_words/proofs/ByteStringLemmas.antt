@@ -57,7 +57,8 @@ glyph_lower : (v g : ℕ) → v < 16 → g ≡ glyph v → is_upper g ≡ false
 glyph_lower v g lt e = grind (arith, nat_tests)
 
 -- which bytes are lower-case digits
-lower_cases : (c : ℕ) → is_hex_digit c ≡ true → is_upper c ≡ false → ((48 ≤ c) × (c ≤ 57)) ⊎ ((97 ≤ c) × (c ≤ 102))
+lower_cases : (c : ℕ) → is_hex_digit c ≡ true → is_upper c ≡ false
+    → ((48 ≤ c) × (c ≤ 57)) ⊎ ((97 ≤ c) × (c ≤ 102))
 lower_cases c digit lower = grind (arith, nat_tests)
 
 decimal_glyph : (v : ℕ) → v < 10 → glyph v ≡ 48 + v
@@ -66,7 +67,8 @@ decimal_glyph v lt = grind (arith, nat_tests)
 letter_glyph : (v : ℕ) → 10 ≤ v → glyph v ≡ 87 + v
 letter_glyph v le = grind (arith, nat_tests)
 
-digit_back : (c : ℕ) → is_hex_digit c ≡ true → is_upper c ≡ false → (v : ℕ) × (v < 16) × (slice_index lower_digits v ≡ c)
+digit_back : (c : ℕ) → is_hex_digit c ≡ true → is_upper c ≡ false
+    → (v : ℕ) × (v < 16) × (slice_index lower_digits v ≡ c)
 digit_back c digit lower = elim (lower_cases c digit lower) [
   | inl d ↦
       let v = c - 48 in
@@ -93,10 +95,12 @@ encoded_words (b ∷ rest) h =
     let a = slice_index lower_digits (b / 16) in
     let z = slice_index lower_digits (b % 16) in
     All-cons P a (z ∷ encode_lower rest) (glyph_word (b / 16) a high (digit_is (b / 16) high))
-    (All-cons P z (encode_lower rest) (glyph_word (b % 16) z low (digit_is (b % 16) low)) (encoded_words rest (All-tail IsByte b rest h)))
+    (All-cons P z (encode_lower rest) (glyph_word (b % 16) z low (digit_is (b % 16) low))
+    (encoded_words rest (All-tail IsByte b rest h)))
 
 pub string_word : (bytes : List ℕ) → AreBytes bytes → IsWord (120 ∷ encode_lower bytes)
-string_word bytes h = All-cons (λ b. (32 < b) × (b ≢ 58)) 120 (encode_lower bytes) (omega arith, λ e. omega (arith, e)) (encoded_words bytes h)
+string_word bytes h = All-cons (λ b. (32 < b) × (b ≢ 58)) 120 (encode_lower bytes)
+    (omega arith, λ e. omega (arith, e)) (encoded_words bytes h)
 
 encoded_lower : (bytes : List ℕ) → AreBytes bytes → list_any is_upper (encode_lower bytes) ≡ false
 unfolding encode_with
@@ -108,19 +112,25 @@ encoded_lower (b ∷ rest) h =
     let a = slice_index lower_digits (b / 16) in
     let z = slice_index lower_digits (b % 16) in
     let tail = encode_lower rest in
-    or_from (is_upper a) (is_upper z || list_any is_upper tail) (glyph_lower (b / 16) a high (digit_is (b / 16) high))
-    (or_from (is_upper z) (list_any is_upper tail) (glyph_lower (b % 16) z low (digit_is (b % 16) low)) (encoded_lower rest (All-tail IsByte b rest h)))
+    or_from (is_upper a) (is_upper z || list_any is_upper tail)
+    (glyph_lower (b / 16) a high (digit_is (b / 16) high))
+    (or_from (is_upper z) (list_any is_upper tail)
+    (glyph_lower (b % 16) z low (digit_is (b % 16) low))
+    (encoded_lower rest (All-tail IsByte b rest h)))
 
-pub string_injective : (a b : List ℕ) → AreBytes a → AreBytes b → encode_lower a ≡ encode_lower b → a ≡ b
+pub string_injective : (a b : List ℕ) → AreBytes a → AreBytes b → encode_lower a ≡ encode_lower b
+    → a ≡ b
 string_injective a b ha hb e =
-    decode_of-same (encode_lower a) a b (decode_of-encode_lower a (is_bytes a ha)) (ap decode_of e ∙ decode_of-encode_lower b (is_bytes b hb))
+    decode_of-same (encode_lower a) a b (decode_of-encode_lower a (is_bytes a ha))
+    (ap decode_of e ∙ decode_of-encode_lower b (is_bytes b hb))
 
 bytes_cons : (b : ℕ) (rest : List ℕ) → b < 256 → IsBytes rest → IsBytes (b ∷ rest)
 bytes_cons b rest h hs zero = h
 bytes_cons b rest h hs (suc i) = hs i
 
 -- lower-case digits in pairs spell bytes
-spelled : (s : List ℕ) → length s % 2 ≡ 0 → AllPass is_hex_digit s → list_any is_upper s ≡ false → (bytes : List ℕ) × (s ≡ encode_lower bytes) × IsBytes bytes
+spelled : (s : List ℕ) → length s % 2 ≡ 0 → AllPass is_hex_digit s → list_any is_upper s ≡ false
+    → (bytes : List ℕ) × (s ≡ encode_lower bytes) × IsBytes bytes
 unfolding encode_with
 spelled [] even digits lower = ([], refl, λ k. omega arith)
 spelled (a ∷ []) even digits lower = absurd (omega arith)
@@ -135,26 +145,34 @@ spelled (a ∷ b ∷ rest) even digits lower =
     let high : (x.0 * 16 + y.0) / 16 ≡ x.0 = omega (arith, x.1, y.1) in
     let low : (x.0 * 16 + y.0) % 16 ≡ y.0 = omega (arith, x.1, y.1) in
     let fits : x.0 * 16 + y.0 < 256 = omega (arith, x.1, y.1) in
-    let head : a ≡ slice_index lower_digits ((x.0 * 16 + y.0) / 16) = sym (ap (slice_index lower_digits) high ∙ x.2) in
-    let next : b ≡ slice_index lower_digits ((x.0 * 16 + y.0) % 16) = sym (ap (slice_index lower_digits) low ∙ y.2) in
+    let head : a ≡ slice_index lower_digits ((x.0 * 16 + y.0) / 16) =
+    sym (ap (slice_index lower_digits) high ∙ x.2) in
+    let next : b ≡ slice_index lower_digits ((x.0 * 16 + y.0) % 16) =
+    sym (ap (slice_index lower_digits) low ∙ y.2) in
     let rest_is = ih.1 in (
       (x.0 * 16 + y.0) ∷ ih.0,
-      ap (λ h. h ∷ b ∷ rest) head ∙ ap (λ h. slice_index lower_digits ((x.0 * 16 + y.0) / 16) ∷ h ∷ rest) next
-          ∙ ap (λ t. slice_index lower_digits ((x.0 * 16 + y.0) / 16) ∷ slice_index lower_digits ((x.0 * 16 + y.0) % 16) ∷ t) rest_is,
+      ap (λ h. h ∷ b ∷ rest) head ∙ ap (λ h. slice_index lower_digits ((x.0 * 16 + y.0) / 16) ∷ h
+          ∷ rest) next
+          ∙ ap (λ t. slice_index lower_digits ((x.0 * 16 + y.0) / 16)
+          ∷ slice_index lower_digits ((x.0 * 16 + y.0) % 16) ∷ t) rest_is,
       bytes_cons (x.0 * 16 + y.0) ih.0 fits ih.2,
     )
 
-first_and_rest : (text : List ℕ) (c : ℕ) → 0 < length text → get_or text 0 0 ≡ c → text ≡ c ∷ drop 1 text
+first_and_rest : (text : List ℕ) (c : ℕ) → 0 < length text → get_or text 0 0 ≡ c
+    → text ≡ c ∷ drop 1 text
 first_and_rest [] c some first = absurd (omega arith)
 first_and_rest (x ∷ xs) c some first = ap (λ h. h ∷ xs) first
 
 -- the bytes that were read
-pub string_read : (text bytes : List ℕ) (most : ℕ) → 0 < length text → get_or text 0 0 ≡ 120 → length (drop 1 text) / 2 ≤ most
-    → list_any is_upper (drop 1 text) ≡ false → decode_of (drop 1 text) ≡ Ok bytes → IsByteString text most bytes
+pub string_read : (text bytes : List ℕ) (most : ℕ) → 0 < length text → get_or text 0 0 ≡ 120
+    → length (drop 1 text) / 2 ≤ most
+    → list_any is_upper (drop 1 text) ≡ false → decode_of (drop 1 text) ≡ Ok bytes
+    → IsByteString text most bytes
 string_read text bytes most some first short lower decoded =
     let ok = decode_of-ok (drop 1 text) bytes decoded in
     let s = spelled (drop 1 text) ok.0 ok.1 lower in
-    let same = decode_of-same (drop 1 text) s.0 bytes (ap decode_of s.1 ∙ decode_of-encode_lower s.0 s.2) decoded in
+    let same = decode_of-same (drop 1 text) s.0 bytes
+    (ap decode_of s.1 ∙ decode_of-encode_lower s.0 s.2) decoded in
     record {
       spelled = first_and_rest text 120 some first ∙ ap (λ t. 120 ∷ t) (s.1 ∙ ap encode_lower same);
       short = omega (arith, ok.2);
@@ -162,23 +180,29 @@ string_read text bytes most some first short lower decoded =
     }
 
 -- what follows the `x` of a byte string
-rest_is : (text bytes : List ℕ) (most : ℕ) → IsByteString text most bytes → drop 1 text ≡ encode_lower bytes
+rest_is : (text bytes : List ℕ) (most : ℕ) → IsByteString text most bytes
+    → drop 1 text ≡ encode_lower bytes
 rest_is text bytes most is = ap (drop 1) is.spelled
 
-pub not_decoded : (text : List ℕ) (most : ℕ) (e : FromHexError) → decode_of (drop 1 text) ≡ Err e → (bytes : List ℕ) → ¬ IsByteString text most bytes
+pub not_decoded : (text : List ℕ) (most : ℕ) (e : FromHexError) → decode_of (drop 1 text) ≡ Err e
+    → (bytes : List ℕ) → ¬ IsByteString text most bytes
 not_decoded text most e refused bytes is =
-    let back = ap decode_of (rest_is text bytes most is) ∙ decode_of-encode_lower bytes (is_bytes bytes is.are_bytes) in
+    let back = ap decode_of (rest_is text bytes most is)
+    ∙ decode_of-encode_lower bytes (is_bytes bytes is.are_bytes) in
     let clash : ◌≡◌ {A = Result (List ℕ) FromHexError} (Err e) (Ok bytes) = sym refused ∙ back in
     cc
 
-pub too_many : (text : List ℕ) (most : ℕ) → most < length (drop 1 text) / 2 → (bytes : List ℕ) → ¬ IsByteString text most bytes
+pub too_many : (text : List ℕ) (most : ℕ) → most < length (drop 1 text) / 2 → (bytes : List ℕ)
+    → ¬ IsByteString text most bytes
 too_many text most long bytes is =
     let len = ap length (rest_is text bytes most is) ∙ length-encode_with lower_digits bytes in
     let short = is.short in
     omega (arith, len, short)
 
-pub upper_case : (text : List ℕ) (most : ℕ) → list_any is_upper (drop 1 text) ≡ true → (bytes : List ℕ) → ¬ IsByteString text most bytes
+pub upper_case : (text : List ℕ) (most : ℕ) → list_any is_upper (drop 1 text) ≡ true
+    → (bytes : List ℕ) → ¬ IsByteString text most bytes
 upper_case text most upper bytes is =
     let lower = encoded_lower bytes is.are_bytes in
-    let clash : true ≡ false = sym upper ∙ ap (list_any is_upper) (rest_is text bytes most is) ∙ lower in
+    let clash : true ≡ false = sym upper ∙ ap (list_any is_upper) (rest_is text bytes most is)
+    ∙ lower in
     cc

@@ -30,20 +30,25 @@ one_zero [] h z = absurd (omega arith)
 one_zero (c ∷ []) h z = refl
 one_zero (c ∷ d ∷ ds) h z = absurd (h (omega arith) z)
 
-found : (text : List ℕ) (max n : ℕ) → max < 2 ^ 64 → (1 < length text → get_or text 0 0 ≢ 48) → number_of text max ≡ Some n → IsNumber text max n
+found : (text : List ℕ) (max n : ℕ) → max < 2 ^ 64 → (1 < length text → get_or text 0 0 ≢ 48)
+    → number_of text max ≡ Some n → IsNumber text max n
 unfolding number_of
 found text max n small plain e =
-    let got = cond_some (is_number text && nat_le (digits_value 10 text) max) (digits_value 10 text) n e in
+    let got = cond_some (is_number text && nat_le (digits_value 10 text) max) (digits_value 10 text)
+    n e in
     let tests = and_parts (is_number text) (nat_le (digits_value 10 text) max) got.0 in
-    let shape = and_parts (nat_lt 0 (length text)) (nat_le (length text) 20 && list_all is_ascii_digit text) tests.0 in
+    let shape = and_parts (nat_lt 0 (length text))
+    (nat_le (length text) 20 && list_all is_ascii_digit text) tests.0 in
     let rest = and_parts (nat_le (length text) 20) (list_all is_ascii_digit text) shape.1 in
     let some : 0 < length text = grind (arith, nat_tests, shape.0) in
     let within : digits_value 10 text ≤ max = grind (arith, nat_tests, tests.1) in
-    let back = decimal-digits_value own text (digits_from_test text rest.1) some (one_zero text plain) (omega arith) in
+    let back = decimal-digits_value own text (digits_from_test text rest.1) some
+    (one_zero text plain) (omega arith) in
     (sym (ap decimal (sym got.1) ∙ back), omega (arith, got.1))
 
 -- the number that was read
-pub plain_reads : (text : List ℕ) (max : ℕ) (r : Option ℕ) → max < 2 ^ 64 → (1 < length text → get_or text 0 0 ≢ 48)
+pub plain_reads : (text : List ℕ) (max : ℕ) (r : Option ℕ) → max < 2 ^ 64
+    → (1 < length text → get_or text 0 0 ≢ 48)
     → r ≡ number_of text max → Reads (IsNumber text max) r
 plain_reads text max (Some n) small plain e = found text max n small plain (sym e)
 plain_reads text max None small plain e = λ n is.
@@ -52,7 +57,8 @@ plain_reads text max None small plain e = λ n is.
     cc
 
 -- a longer text that begins with a zero
-pub leading_zero : (text : List ℕ) (max : ℕ) → max < 2 ^ 64 → 1 < length text → get_or text 0 0 ≡ 48 → (n : ℕ) → ¬ IsNumber text max n
+pub leading_zero : (text : List ℕ) (max : ℕ) → max < 2 ^ 64 → 1 < length text → get_or text 0 0 ≡ 48
+    → (n : ℕ) → ¬ IsNumber text max n
 leading_zero text max small long z n is =
     elim (cases_eq n 0) [
       | inl none ↦
@@ -67,4 +73,6 @@ leading_zero text max small long z n is =
 pub decimal_word : (n : ℕ) → n < 2 ^ 64 → IsWord (decimal n)
 decimal_word n small =
     let all = (decimal_is_IsNumeral n small).0.1 in
-    All-from_get_or (λ b. (32 < b) × (b ≢ 58)) (decimal n) 0 (λ i h. let d = digit_at (decimal n) i all h in (omega (arith, d), λ e. omega (arith, d, e)))
+    All-from_get_or (λ b. (32 < b) × (b ≢ 58)) (decimal n) 0
+    (λ i h. let d = digit_at (decimal n) i all h in
+    (omega (arith, d), λ e. omega (arith, d, e)))

@@ -18,7 +18,8 @@ IsNumber text max n = (text ≡ decimal n) × (n ≤ max)
 abbrev pub AreBytes : List ℕ → Type 0
 AreBytes bytes = All (λ b. b < 256) bytes
 
--- the text is `x` and two lower-case hexadecimal digits for each byte, of which there are at most this many
+-- the text is `x` and two lower-case hexadecimal digits for each byte, of which there are at most
+-- this many
 pub record IsByteString (text : List ℕ) (most : ℕ) (bytes : List ℕ) : Type 0 where
   pub spelled : text ≡ bytes_word bytes
   pub short : length bytes ≤ most

@@ -7,9 +7,12 @@ ghost use Rattle.plain_words.specs.Words.{AreBytes, IsWord, SplitsAt};
 /// Two values of one spelling are one value, and a text is cut at a byte in one way.
 pub fn one_spelling()
     ensures numbers { (m n : ℕ) → m < 2 ^ 64 → n < 2 ^ 64 → decimal m ≡ decimal n → m ≡ n }
-    ensures byte_strings { (a b : List ℕ) → AreBytes a → AreBytes b → bytes_word a ≡ bytes_word b → a ≡ b }
+    ensures byte_strings { (a b : List ℕ) → AreBytes a → AreBytes b → bytes_word a ≡ bytes_word b
+        → a ≡ b }
     ensures flags { (a b : Bool) → flag_word a ≡ flag_word b → a ≡ b }
-    ensures splits { (byte : ℕ) (text word rest other behind : List ℕ) → SplitsAt byte text word rest → SplitsAt byte text other behind → (word ≡ other) × (rest ≡ behind) }
+    ensures splits { (byte : ℕ) (text word rest other behind : List ℕ)
+        → SplitsAt byte text word rest → SplitsAt byte text other behind
+        → (word ≡ other) × (rest ≡ behind) }
 {}
 
 /// Numbers, byte strings and flags are words.

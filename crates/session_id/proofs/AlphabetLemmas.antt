@@ -26,14 +26,16 @@ passes_below-at p (suc n) k h lt =
 pub digit_of-character_of : (d : ℕ) → d < 32 → digit_of (character_of d) ≡ d
 unfolding digit_of
 digit_of-character_of d lt =
-    eqb-true (digit_of (character_of d)) d (passes_below-at (λ k. digit_of (character_of k) == k) 32 d refl lt)
+    eqb-true (digit_of (character_of d)) d (passes_below-at (λ k. digit_of (character_of k) == k) 32
+    d refl lt)
 
 pub digit_of-letter : (c : ℕ) → 97 ≤ c → c ≤ 122 → digit_of c ≡ c - 97
 unfolding digit_of
 digit_of-letter c low high =
     let k : c - 97 < 26 = omega arith in
     let e : 97 + (c - 97) ≡ c = omega arith in
-    let there = eqb-true (digit_of (97 + (c - 97))) (c - 97) (passes_below-at (λ k. digit_of (97 + k) == k) 26 (c - 97) refl k) in
+    let there = eqb-true (digit_of (97 + (c - 97))) (c - 97)
+    (passes_below-at (λ k. digit_of (97 + k) == k) 26 (c - 97) refl k) in
     rw e at there
 
 pub digit_of-figure : (c : ℕ) → 48 ≤ c → c ≤ 53 → digit_of c ≡ c - 22
@@ -41,7 +43,8 @@ unfolding digit_of
 digit_of-figure c low high =
     let k : c - 48 < 6 = omega arith in
     let e : 48 + (c - 48) ≡ c = omega arith in
-    let there = eqb-true (digit_of (48 + (c - 48))) (26 + (c - 48)) (passes_below-at (λ k. digit_of (48 + k) == 26 + k) 6 (c - 48) refl k) in
+    let there = eqb-true (digit_of (48 + (c - 48))) (26 + (c - 48))
+    (passes_below-at (λ k. digit_of (48 + k) == 26 + k) 6 (c - 48) refl k) in
     let at_c = rw e at there in
     omega (arith, at_c)
 
@@ -68,7 +71,8 @@ in_ranges c = (nat_le 97 c && nat_le c 122) || (nat_le 48 c && nat_le c 53)
 -- a character of the alphabet is in one of its two ranges
 pub in_ranges-digit_of : (c : ℕ) → digit_of c < 32 → in_ranges c ≡ true
 in_ranges-digit_of c lt =
-    rw (character_of-digit_of c lt) at (passes_below-at (λ k. in_ranges (character_of k)) 32 (digit_of c) refl lt)
+    rw (character_of-digit_of c lt) at (passes_below-at (λ k. in_ranges (character_of k)) 32
+    (digit_of c) refl lt)
 
 -- and so is none outside them
 pub digit_of-none : (c : ℕ) → in_ranges c ≡ false → digit_of c < 32 → ⊥

@@ -31,7 +31,11 @@ number-digits b count n some lt =
     whole ∙ rw e (mod-eq_of_lt lt)
 
 pub IsId-digits : (n : ℕ) → IsId (digits 256 15 n)
-IsId-digits n = record { length = length-digits 256 15 n; range = All-digits 256 15 n (omega arith) }
+IsId-digits n = record {
+  length = length-digits 256 15 n;
+  range =
+      All-digits 256 15 n (omega arith);
+}
 
 -- ---- texts
 
@@ -48,21 +52,26 @@ All-digit_of_text text h =
 pub All-digit_of : (text : List ℕ) → is_text text ≡ true → All (λ d. d < 32) (map digit_of text)
 All-digit_of text h = All-map (λ d. d < 32) digit_of text (All-digit_of_text text h)
 
-map-digit_of-character_of : (ds : List ℕ) → All (λ d. d < 32) ds → map digit_of (map character_of ds) ≡ ds
+map-digit_of-character_of : (ds : List ℕ) → All (λ d. d < 32) ds
+    → map digit_of (map character_of ds) ≡ ds
 map-digit_of-character_of [] h = refl
 map-digit_of-character_of (d ∷ ds) h =
     let head = digit_of-character_of d (All-head (λ n. n < 32) d ds h) in
     let rest = map-digit_of-character_of ds (All-tail (λ n. n < 32) d ds h) in
     cc (head, rest)
 
-map-character_of-digit_of : (text : List ℕ) → All (λ d. d < 32) (map digit_of text) → map character_of (map digit_of text) ≡ text
+map-character_of-digit_of : (text : List ℕ) → All (λ d. d < 32) (map digit_of text)
+    → map character_of (map digit_of text) ≡ text
 map-character_of-digit_of [] h = refl
 map-character_of-digit_of (c ∷ text) h =
-    let head = character_of-digit_of c (All-head (λ n. n < 32) (digit_of c) (map digit_of text) h) in
-    let rest = map-character_of-digit_of text (All-tail (λ n. n < 32) (digit_of c) (map digit_of text) h) in
+    let head = character_of-digit_of c (All-head (λ n. n < 32) (digit_of c) (map digit_of text)
+    h) in
+    let rest = map-character_of-digit_of text
+    (All-tail (λ n. n < 32) (digit_of c) (map digit_of text) h) in
     cc (head, rest)
 
-is_text-map : (ds : List ℕ) → length ds ≡ 24 → All (λ d. d < 32) ds → is_text (map character_of ds) ≡ true
+is_text-map : (ds : List ℕ) → length ds ≡ 24 → All (λ d. d < 32) ds
+    → is_text (map character_of ds) ≡ true
 unfolding is_text
 is_text-map ds size below =
     let long = eq-eqb (length (map character_of ds)) 24 (length-map ds character_of ∙ size) in
@@ -80,10 +89,12 @@ number_of_id-lt bytes h = rw h.length at (number-lt 256 bytes h.range)
 
 number_of_text-lt : (text : List ℕ) → is_text text ≡ true → number 32 (map digit_of text) < 32 ^ 24
 number_of_text-lt text h =
-    rw (length-map text digit_of ∙ length-text text h) at (number-lt 32 (map digit_of text) (All-digit_of text h))
+    rw (length-map text digit_of ∙ length-text text h) at
+    (number-lt 32 (map digit_of text) (All-digit_of text h))
 
 -- each text is that of the bytes of its number
-pub IsTextOf-digits : (text : List ℕ) → is_text text ≡ true → IsTextOf (digits 256 15 (number 32 (map digit_of text))) text
+pub IsTextOf-digits : (text : List ℕ) → is_text text ≡ true
+    → IsTextOf (digits 256 15 (number 32 (map digit_of text))) text
 IsTextOf-digits text h =
     let n = number 32 (map digit_of text) in
     record {
@@ -102,7 +113,8 @@ IsTextOf-text_of bytes h =
     record {
       of_id = h;
       in_alphabet = is_text-map ds (length-digits 32 24 n) below;
-      same_number = rw (map-digit_of-character_of ds below) (number-digits 32 24 n (omega arith) (number_of_id-lt bytes h));
+      same_number = rw (map-digit_of-character_of ds below)
+          (number-digits 32 24 n (omega arith) (number_of_id-lt bytes h));
     }
 
 -- an identifier has no other text
@@ -111,9 +123,12 @@ unfolding text_of
 same_text bytes text h =
     let n = number 256 bytes in
     let below = All-digit_of text h.in_alphabet in
-    let size = length-map text digit_of ∙ length-text text h.in_alphabet ∙ sym (length-digits 32 24 n) in
-    let value = h.same_number ∙ sym (number-digits 32 24 n (omega arith) (number_of_id-lt bytes h.of_id)) in
-    let same = same_from_number 32 (map digit_of text) (digits 32 24 n) below (All-digits 32 24 n (omega arith)) size value in
+    let size = length-map text digit_of ∙ length-text text h.in_alphabet
+    ∙ sym (length-digits 32 24 n) in
+    let value = h.same_number ∙ sym (number-digits 32 24 n (omega arith)
+    (number_of_id-lt bytes h.of_id)) in
+    let same = same_from_number 32 (map digit_of text) (digits 32 24 n) below
+    (All-digits 32 24 n (omega arith)) size value in
     sym (map-character_of-digit_of text below) ∙ ap (map character_of) same
 
 -- a text is that of no other identifier
@@ -140,18 +155,22 @@ is_text-wrong_length text h =
 not_below : (m n : ℕ) → (m < n → ⊥) → n ≤ m
 not_below m n h = omega (arith, h)
 
-pub is_text-outside : (text : List ℕ) (i : ℕ) → i < length text → (digit_of (get_or text i 0) < 32 → ⊥) → is_text text ≡ false
+pub is_text-outside : (text : List ℕ) (i : ℕ) → i < length text
+    → (digit_of (get_or text i 0) < 32 → ⊥) → is_text text ≡ false
 unfolding is_text
 is_text-outside text i lt out =
-    let fails : nat_lt (digit_of (get_or text i 0)) 32 ≡ false = le-ltb _ _ (not_below (digit_of (get_or text i 0)) 32 out) in
+    let fails : nat_lt (digit_of (get_or text i 0)) 32 ≡ false =
+    le-ltb _ _ (not_below (digit_of (get_or text i 0)) 32 out) in
     let not_all = list_all_at (λ c. nat_lt (digit_of c) 32) text i 0 lt fails in
     ap (λ all. (length text == 24) && all) not_all ∙ and-false (length text == 24)
 
-pub is_text-from_each : (text : List ℕ) → length text ≡ 24 → ((k : ℕ) → k < 24 → digit_of (get_or text k 0) < 32) → is_text text ≡ true
+pub is_text-from_each : (text : List ℕ) → length text ≡ 24
+    → ((k : ℕ) → k < 24 → digit_of (get_or text k 0) < 32) → is_text text ≡ true
 unfolding is_text
 is_text-from_each text size each =
     let long = eq-eqb (length text) 24 size in
-    let below = All-from_get_or (λ c. nat_lt (digit_of c) 32 ≡ true) text 0 (λ k lt. lt-ltb _ _ (each k (omega arith))) in
+    let below = All-from_get_or (λ c. nat_lt (digit_of c) 32 ≡ true) text 0
+    (λ k lt. lt-ltb _ _ (each k (omega arith))) in
     let all = list_all-from_AllPass (λ c. nat_lt (digit_of c) 32) text below in
     rw (long, all) refl
 
@@ -166,7 +185,8 @@ exact-some id text other h ok = (
 )
 
 -- where it reads none
-pub exact-none : (text other : List ℕ) → false ≡ is_text text → IsId other → text_of other ≡ text → ⊥
+pub exact-none : (text other : List ℕ) → false ≡ is_text text → IsId other → text_of other ≡ text
+    → ⊥
 exact-none text other h ok e =
     let is = (IsTextOf-text_of other ok).in_alphabet in
     let there : is_text text ≡ true = subst (λ (t : List ℕ). is_text t ≡ true) e is in
@@ -175,13 +195,15 @@ exact-none text other h ok e =
 -- ---- the laws
 
 -- a text is 24 characters of the alphabet
-pub is_text-characters : (text : List ℕ) → IsTrue (is_text text) ↔ ((length text ≡ 24) × All (Contains alphabet) text)
+pub is_text-characters : (text : List ℕ) → IsTrue (is_text text)
+    ↔ ((length text ≡ 24) × All (Contains alphabet) text)
 is_text-characters text = (
   λ h. (
     length-text text h,
     λ k d lt. Contains-alphabet (get_or text k d) (All-digit_of_text text h k d lt),
   ),
-  λ h. is_text-from_each text h.0 (λ k lt. digit_of-Contains (get_or text k 0) (h.1 k 0 (omega (arith, h.0)))),
+  λ h. is_text-from_each text h.0 (λ k lt. digit_of-Contains (get_or text k 0)
+      (h.1 k 0 (omega (arith, h.0)))),
 )
 
 -- each group of five bytes stands in a group of eight characters
@@ -190,10 +212,14 @@ pub same_group : (id text : List ℕ) → IsTextOf id text → (k : ℕ) → k <
 same_group id text h k lt =
     let ds = map digit_of text in
     let size : length ds ≡ 24 = length-map text digit_of ∙ length-text text h.in_alphabet in
-    let of_text = number-part 32 ds (8 * k) 8 (All-digit_of text h.in_alphabet) (omega arith) (omega (arith, size)) in
-    let of_id = number-part 256 id (5 * k) 5 h.of_id.range (omega arith) (omega (arith, h.of_id.length)) in
+    let of_text = number-part 32 ds (8 * k) 8 (All-digit_of text h.in_alphabet) (omega arith)
+    (omega (arith, size)) in
+    let of_id = number-part 256 id (5 * k) 5 h.of_id.range (omega arith)
+    (omega (arith, h.of_id.length)) in
     let mapped : map digit_of (group 8 k text) ≡ take 8 (drop (8 * k) ds) =
-    sym (take-map digit_of 8 (drop (8 * k) text)) ∙ ap (take 8) (sym (drop-map digit_of (8 * k) text)) in
+    sym (take-map digit_of 8 (drop (8 * k) text))
+    ∙ ap (take 8) (sym (drop-map digit_of (8 * k) text)) in
     let same : number 32 ds / 32 ^ (8 * k) % 32 ^ 8 ≡ number 256 id / 256 ^ (5 * k) % 256 ^ 5 =
-    ap (λ n. n / 32 ^ (8 * k) % 32 ^ 8) h.same_number ∙ ap (λ p. number 256 id / p % 32 ^ 8) (same_place k lt) in
+    ap (λ n. n / 32 ^ (8 * k) % 32 ^ 8) h.same_number
+    ∙ ap (λ p. number 256 id / p % 32 ^ 8) (same_place k lt) in
     ap (number 32) mapped ∙ of_text ∙ same ∙ sym of_id

@@ -28,7 +28,8 @@ same_from_number b (x ∷ xs) (y ∷ ys) hx hy l e =
     let turned : number b xs * b + x ≡ number b ys * b + y = grind (arith, e) in
     let parts = same_from_place (number b xs) x (number b ys) y b
     (All-head (λ n. n < b) x xs hx) (All-head (λ n. n < b) y ys hy) turned in
-    let rest = same_from_number b xs ys (All-tail (λ n. n < b) x xs hx) (All-tail (λ n. n < b) y ys hy) (omega (arith, l)) parts.0 in
+    let rest = same_from_number b xs ys (All-tail (λ n. n < b) x xs hx)
+    (All-tail (λ n. n < b) y ys hy) (omega (arith, l)) parts.0 in
     let first = parts.1 in
     cc (first, rest)
 
@@ -38,7 +39,8 @@ pub number-digits_from : (b n : ℕ) → 0 < b → (a count : ℕ)
 number-digits_from b n some a zero = rw pow-zero (sym (mod-one (n / b ^ a)))
 number-digits_from b n some a (suc count) =
     let rest = number-digits_from b n some (a + 1) count in
-    let next : n / b ^ (a + 1) ≡ n / b ^ a / b = rw (add-one, pow-suc) (sym (div-div-eq-div-mul n (b ^ a) b)) in
+    let next : n / b ^ (a + 1) ≡ n / b ^ a / b =
+    rw (add-one, pow-suc) (sym (div-div-eq-div-mul n (b ^ a) b)) in
     let split = mod-mul (n / b ^ a) (one-le-pow count b some) some in
     let tail = rw next at rest in
     rw (pow-suc, split, tail) (grind arith)
@@ -48,17 +50,20 @@ pub All-digits_from : (b n : ℕ) → 0 < b → (a count : ℕ)
     → All (λ d. d < b) (map (λ k. n / b ^ k % b) (range_with_len a count))
 All-digits_from b n some a zero = All-nil (λ d. d < b)
 All-digits_from b n some a (suc count) =
-    All-cons (λ d. d < b) (n / b ^ a % b) _ (mod-lt (n / b ^ a) some) (All-digits_from b n some (a + 1) count)
+    All-cons (λ d. d < b) (n / b ^ a % b) _ (mod-lt (n / b ^ a) some)
+    (All-digits_from b n some (a + 1) count)
 
 -- reading one more digit of a list stays below the power of the whole list
 pub number-step_lt : (b : ℕ) (ds : List ℕ) (i : ℕ) → All (λ d. d < b) ds → 0 < i → i ≤ length ds
     → get_or ds (i - 1) 0 + b * number b (drop i ds) < b ^ length ds
 number-step_lt b ds i h some within =
     let back : suc (i - 1) ≡ i = omega arith in
-    let cut : drop (i - 1) ds ≡ get_or ds (i - 1) 0 ∷ drop i ds = rw back at (drop-cons ds (i - 1) 0 (omega arith)) in
+    let cut : drop (i - 1) ds ≡ get_or ds (i - 1) 0 ∷ drop i ds =
+    rw back at (drop-cons ds (i - 1) 0 (omega arith)) in
     let part : number b (drop (i - 1) ds) < b ^ length (drop (i - 1) ds) =
     number-lt b (drop (i - 1) ds) (All-drop (λ d. d < b) (i - 1) ds h) in
-    let value : number b (drop (i - 1) ds) ≡ get_or ds (i - 1) 0 + b * number b (drop i ds) = rw cut refl in
+    let value : number b (drop (i - 1) ds) ≡ get_or ds (i - 1) 0 + b * number b (drop i ds) =
+    rw cut refl in
     let first : get_or ds (i - 1) 0 < b = All-get_or (λ d. d < b) ds (i - 1) 0 (omega arith) h in
     let wide : b ^ length (drop (i - 1) ds) ≤ b ^ length ds =
     pow-le-pow_right (omega arith) (omega (arith, length-drop {A = ℕ})) in
@@ -81,16 +86,19 @@ map-from_each f (x ∷ xs) (y ∷ ys) size each =
 
 -- a list of bytes, from what the type says of each
 pub All-bytes : (xs : List ℕ) → ((i : ℕ) → Fits w8 (get_or xs i 0)) → All (λ byte. byte < 256) xs
-All-bytes xs each = All-from_get_or (λ byte. byte < 256) xs 0 (λ i lt. let fits = each i in omega (arith, fits))
+All-bytes xs each = All-from_get_or (λ byte. byte < 256) xs 0
+    (λ i lt. let fits = each i in omega (arith, fits))
 
 -- the digits in a part of a list write what the number has at that part
-pub number-part : (b : ℕ) (xs : List ℕ) (at count : ℕ) → All (λ d. d < b) xs → 0 < b → at + count ≤ length xs
+pub number-part : (b : ℕ) (xs : List ℕ) (at count : ℕ) → All (λ d. d < b) xs → 0 < b
+    → at + count ≤ length xs
     → number b (take count (drop at xs)) ≡ number b xs / b ^ at % b ^ count
 number-part b xs zero zero h some within = rw pow-zero (sym (mod-one _))
 number-part b [] zero (suc count) h some within = absurd (omega arith)
 number-part b (x ∷ xs) zero (suc count) h some within =
     let head = All-head (λ n. n < b) x xs h in
-    let rest = number-part b xs zero count (All-tail (λ n. n < b) x xs h) some (omega (arith, within)) in
+    let rest = number-part b xs zero count (All-tail (λ n. n < b) x xs h) some
+    (omega (arith, within)) in
     let whole = number b xs * b + x in
     let e : number b xs / b ^ 0 ≡ number b xs = rw pow-zero (div-one (number b xs)) in
     let tail : number b (take count xs) ≡ number b xs % b ^ count = rw e at rest in
@@ -102,11 +110,14 @@ number-part b (x ∷ xs) zero (suc count) h some within =
 number-part b [] (suc at) count h some within = absurd (omega arith)
 number-part b (x ∷ xs) (suc at) count h some within =
     let head = All-head (λ n. n < b) x xs h in
-    let rest = number-part b xs at count (All-tail (λ n. n < b) x xs h) some (omega (arith, within)) in
+    let rest = number-part b xs at count (All-tail (λ n. n < b) x xs h) some
+    (omega (arith, within)) in
     let turned : x + b * number b xs ≡ number b xs * b + x = grind arith in
-    let high : (x + b * number b xs) / b ≡ number b xs = rw turned (div-mul-add (number b xs) b x head) in
+    let high : (x + b * number b xs) / b ≡ number b xs =
+    rw turned (div-mul-add (number b xs) b x head) in
     let deep : (x + b * number b xs) / b ^ suc at ≡ number b xs / b ^ at =
-    ap (λ p. (x + b * number b xs) / p) (pow-succ' b at) ∙ sym (div-div-eq-div-mul (x + b * number b xs) b (b ^ at)) ∙ ap (λ n. n / b ^ at) high in
+    ap (λ p. (x + b * number b xs) / p) (pow-succ' b at)
+    ∙ sym (div-div-eq-div-mul (x + b * number b xs) b (b ^ at)) ∙ ap (λ n. n / b ^ at) high in
     rest ∙ ap (λ n. n % b ^ count) (sym deep)
 
 -- five bytes are eight digits in base 32

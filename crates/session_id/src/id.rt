@@ -67,14 +67,16 @@ impl Id {
     }
 }
 
-/// A law, with nothing to run: identifiers and the texts that read are in one-to-one correspondence,
+/// A law, with nothing to run: identifiers and the texts that read are in one-to-one
+/// correspondence,
 /// those texts are the ones of 24 characters of the alphabet, and each five bytes are written by
 /// eight characters of their own, a number of 40 bits.
 pub fn correspondence()
     ensures characters { (text : List ℕ)
         → (IsTrue (is_text text) ↔ ((length text ≡ 24) × All (Contains alphabet) text)) }
     ensures text_of_each { (id : List ℕ) → IsId id → IsTextOf id (text_of id) }
-    ensures id_of_each { (text : List ℕ) → IsTrue (is_text text) → (id : List ℕ) × IsTextOf id text }
+    ensures id_of_each { (text : List ℕ) → IsTrue (is_text text)
+        → (id : List ℕ) × IsTextOf id text }
     ensures one_text { (id text : List ℕ) → IsTextOf id text → text ≡ text_of id }
     ensures one_id { (a b text : List ℕ) → IsTextOf a text → IsTextOf b text → a ≡ b }
     ensures groups { (id text : List ℕ) → IsTextOf id text → (k : ℕ) → k < 3

@@ -17,8 +17,10 @@ use Rattle.session_machine.specs.Verdicts.{reply_of}
 use Rattle.session_machine.specs.History.{DrawFits, HasPlace, after_reply}
 
 -- a verdict's reply is none that the machine gives besides
-pub verdict_steps : (kind : Kind) (item old new : Option Item) (t drawn : ℕ) (ask : Ask) (rose : Bool)
-    → (reply_of kind item, new) ≡ effect old t drawn ask → Step old t drawn ask rose (reply_of kind item) new
+pub verdict_steps : (kind : Kind) (item old new : Option Item) (t drawn : ℕ) (ask : Ask)
+    (rose : Bool)
+    → (reply_of kind item, new) ≡ effect old t drawn ask
+    → Step old t drawn ask rose (reply_of kind item) new
 verdict_steps (kinds.Found cookie first) (Some it) old new t drawn ask rose h = h
 verdict_steps (kinds.Found cookie first) None old new t drawn ask rose h = h
 verdict_steps kinds.Done item old new t drawn ask rose h = h
@@ -31,7 +33,8 @@ pub Step-fixes : (old new : Option Item) (t drawn : ℕ) (ask : Ask) (rose : Boo
     → Step old t drawn ask rose reply new → new ≡ after_reply old t drawn ask reply
 Step-fixes old new t drawn ask rose replies.NoMemory h = h
 Step-fixes old new t drawn ask rose replies.KeeperFault h = h.1
-Step-fixes old new t drawn ask rose (replies.Found body minutes cookie first) h = ap (λ (x : Effect). x.1) h
+Step-fixes old new t drawn ask rose (replies.Found body minutes cookie first) h =
+    ap (λ (x : Effect). x.1) h
 Step-fixes old new t drawn ask rose replies.Done h = ap (λ (x : Effect). x.1) h
 Step-fixes old new t drawn ask rose (replies.Locked cookie a) h = ap (λ (x : Effect). x.1) h
 Step-fixes old new t drawn ask rose replies.Missing h = ap (λ (x : Effect). x.1) h
@@ -56,67 +59,152 @@ absent-fits : (t : ℕ) (ask : Ask) → t ≤ 2 ^ 62 → AskFits ask → EffectF
 absent-fits t Read le fits = (tt, tt, tt)
 absent-fits t Acquire le fits = (tt, tt, tt)
 absent-fits t (Release cookie) le fits = (tt, tt, tt)
-absent-fits t (Write body minutes fresh None) le fits =
-    (tt, tt, record { body = fits.0; some_minutes = fits.1.0; minutes = fits.1.1; touched = le; cookie = tt; since = tt })
+absent-fits t (Write body minutes fresh None) le fits = (
+  tt,
+  tt,
+  record {
+    body = fits.0;
+    some_minutes = fits.1.0;
+    minutes = fits.1.1;
+    touched =
+        le;
+    cookie = tt;
+    since = tt;
+  },
+)
 absent-fits t (Write body minutes fresh (Some cookie)) le fits = (tt, tt, tt)
 absent-fits t (Remove cookie) le fits = (tt, tt, tt)
 absent-fits t Reset le fits = (tt, tt, tt)
 
-read-fits : (item : Item) (t drawn : ℕ) → t ≤ 2 ^ 62 → ItemFits item → EffectFits (on_free item t drawn Read)
+read-fits : (item : Item) (t drawn : ℕ) → t ≤ 2 ^ 62 → ItemFits item
+    → EffectFits (on_free item t drawn Read)
 read-fits item t drawn le fits = (
   (fits.body, (fits.some_minutes, fits.minutes), tt),
   tt,
-  record { body = fits.body; some_minutes = fits.some_minutes; minutes = fits.minutes; touched = omega (arith, fits.touched); cookie = fits.cookie; since = fits.since },
+  record {
+    body = fits.body;
+    some_minutes = fits.some_minutes;
+    minutes = fits.minutes;
+    touched =
+        omega (arith, fits.touched);
+    cookie = fits.cookie;
+    since = fits.since;
+  },
 )
 
-free-fits : (item : Item) (t drawn : ℕ) (ask : Ask) → t ≤ 2 ^ 62 → drawn < 2 ^ 63 → (ask ≡ Acquire → 0 < drawn) → ItemFits item → AskFits ask → EffectFits (on_free item t drawn ask)
+free-fits : (item : Item) (t drawn : ℕ) (ask : Ask) → t ≤ 2 ^ 62 → drawn < 2 ^ 63
+    → (ask ≡ Acquire → 0 < drawn) → ItemFits item → AskFits ask
+    → EffectFits (on_free item t drawn ask)
 free-fits item t drawn Read le small some fits asks = read-fits item t drawn le fits
 free-fits item t drawn Acquire le small some fits asks = (
   (fits.body, (fits.some_minutes, fits.minutes), (some refl, small)),
   tt,
-  record { body = fits.body; some_minutes = fits.some_minutes; minutes = fits.minutes; touched = omega (arith, fits.touched); cookie = small; since = le },
+  record {
+    body = fits.body;
+    some_minutes = fits.some_minutes;
+    minutes = fits.minutes;
+    touched =
+        omega (arith, fits.touched);
+    cookie = small;
+    since = le;
+  },
 )
 free-fits item t drawn (Release cookie) le small some fits asks = (tt, tt, fits)
 free-fits item t drawn (Write body minutes true None) le small some fits asks = (tt, tt, fits)
 free-fits item t drawn (Write body minutes false None) le small some fits asks = (
   tt,
   tt,
-  record { body = asks.0; some_minutes = asks.1.0; minutes = asks.1.1; touched = omega (arith, fits.touched); cookie = fits.cookie; since = fits.since },
+  record {
+    body = asks.0;
+    some_minutes = asks.1.0;
+    minutes = asks.1.1;
+    touched =
+        omega (arith, fits.touched);
+    cookie = fits.cookie;
+    since = fits.since;
+  },
 )
-free-fits item t drawn (Write body minutes true (Some cookie)) le small some fits asks = ((omega arith, omega arith), tt, fits)
-free-fits item t drawn (Write body minutes false (Some cookie)) le small some fits asks = ((omega arith, omega arith), tt, fits)
+free-fits item t drawn (Write body minutes true (Some cookie)) le small some fits asks =
+    ((omega arith, omega arith), tt, fits)
+free-fits item t drawn (Write body minutes false (Some cookie)) le small some fits asks =
+    ((omega arith, omega arith), tt, fits)
 free-fits item t drawn (Remove None) le small some fits asks = (tt, tt, tt)
-free-fits item t drawn (Remove (Some cookie)) le small some fits asks = ((omega arith, omega arith), tt, fits)
+free-fits item t drawn (Remove (Some cookie)) le small some fits asks =
+    ((omega arith, omega arith), tt, fits)
 free-fits item t drawn Reset le small some fits asks = (
   tt,
   tt,
-  record { body = fits.body; some_minutes = fits.some_minutes; minutes = fits.minutes; touched = omega (arith, fits.touched); cookie = fits.cookie; since = fits.since },
+  record {
+    body = fits.body;
+    some_minutes = fits.some_minutes;
+    minutes = fits.minutes;
+    touched =
+        omega (arith, fits.touched);
+    cookie = fits.cookie;
+    since = fits.since;
+  },
 )
 
 -- a hold in range is in the way in range
-way-fits : (hold : Hold) (t : ℕ) → t ≤ 2 ^ 62 → hold.cookie < 2 ^ 63 → (hold.cookie < 2 ^ 63) × (age hold t ≤ 2 ^ 62)
+way-fits : (hold : Hold) (t : ℕ) → t ≤ 2 ^ 62 → hold.cookie < 2 ^ 63
+    → (hold.cookie < 2 ^ 63) × (age hold t ≤ 2 ^ 62)
 way-fits hold t le small = (small, omega arith)
 
 either : (b : Bool) (x y : Effect) → EffectFits x → EffectFits y → EffectFits (cond b x y)
 either true x y p q = p
 either false x y p q = q
 
-held-fits : (item : Item) (hold : Hold) (t : ℕ) (ask : Ask) → t ≤ 2 ^ 62 → hold.cookie < 2 ^ 63 → ItemFits item → AskFits ask → EffectFits (on_held item hold t ask)
+held-fits : (item : Item) (hold : Hold) (t : ℕ) (ask : Ask) → t ≤ 2 ^ 62 → hold.cookie < 2 ^ 63
+    → ItemFits item → AskFits ask → EffectFits (on_held item hold t ask)
 held-fits item hold t Read le small fits asks = (way-fits hold t le small, tt, fits)
 held-fits item hold t Acquire le small fits asks = (way-fits hold t le small, tt, fits)
 held-fits item hold t (Release cookie) le small fits asks =
-    either (cookie == hold.cookie) _ _
-    (tt, tt, record { body = fits.body; some_minutes = fits.some_minutes; minutes = fits.minutes; touched = omega (arith, fits.touched); cookie = tt; since = tt })
+    either (cookie == hold.cookie) _ _ (
+      tt,
+      tt,
+      record {
+        body = fits.body;
+        some_minutes = fits.some_minutes;
+        minutes =
+            fits.minutes;
+        touched = omega (arith, fits.touched);
+        cookie = tt;
+        since = tt;
+      },
+    )
     (way-fits hold t le small, tt, fits)
 held-fits item hold t (Write body minutes true None) le small fits asks = (tt, tt, fits)
-held-fits item hold t (Write body minutes false None) le small fits asks = (way-fits hold t le small, tt, fits)
+held-fits item hold t (Write body minutes false None) le small fits asks =
+    (way-fits hold t le small, tt, fits)
 held-fits item hold t (Write body minutes true (Some cookie)) le small fits asks =
-    either (cookie == hold.cookie) _ _
-    (tt, tt, record { body = asks.0; some_minutes = asks.1.0; minutes = asks.1.1; touched = omega (arith, fits.touched); cookie = tt; since = tt })
+    either (cookie == hold.cookie) _ _ (
+      tt,
+      tt,
+      record {
+        body = asks.0;
+        some_minutes = asks.1.0;
+        minutes = asks.1.1;
+        touched =
+            omega (arith, fits.touched);
+        cookie = tt;
+        since = tt;
+      },
+    )
     (way-fits hold t le small, tt, fits)
 held-fits item hold t (Write body minutes false (Some cookie)) le small fits asks =
-    either (cookie == hold.cookie) _ _
-    (tt, tt, record { body = asks.0; some_minutes = asks.1.0; minutes = asks.1.1; touched = omega (arith, fits.touched); cookie = tt; since = tt })
+    either (cookie == hold.cookie) _ _ (
+      tt,
+      tt,
+      record {
+        body = asks.0;
+        some_minutes = asks.1.0;
+        minutes = asks.1.1;
+        touched =
+            omega (arith, fits.touched);
+        cookie = tt;
+        since = tt;
+      },
+    )
     (way-fits hold t le small, tt, fits)
 held-fits item hold t (Remove None) le small fits asks = (way-fits hold t le small, tt, fits)
 held-fits item hold t (Remove (Some cookie)) le small fits asks =
@@ -124,14 +212,25 @@ held-fits item hold t (Remove (Some cookie)) le small fits asks =
 held-fits item hold t Reset le small fits asks = (
   tt,
   tt,
-  record { body = fits.body; some_minutes = fits.some_minutes; minutes = fits.minutes; touched = omega (arith, fits.touched); cookie = fits.cookie; since = fits.since },
+  record {
+    body = fits.body;
+    some_minutes = fits.some_minutes;
+    minutes = fits.minutes;
+    touched =
+        omega (arith, fits.touched);
+    cookie = fits.cookie;
+    since = fits.since;
+  },
 )
 
-there-fits : (item : Item) (holder : Option Hold) (t drawn : ℕ) (ask : Ask) → item.holder ≡ holder → t ≤ 2 ^ 62 → drawn < 2 ^ 63 → (ask ≡ Acquire → 0 < drawn) → ItemFits item → AskFits ask
+there-fits : (item : Item) (holder : Option Hold) (t drawn : ℕ) (ask : Ask) → item.holder ≡ holder
+    → t ≤ 2 ^ 62 → drawn < 2 ^ 63 → (ask ≡ Acquire → 0 < drawn) → ItemFits item → AskFits ask
     → EffectFits (on_there item holder t drawn ask)
-there-fits item None t drawn ask is le small some fits asks = free-fits item t drawn ask le small some fits asks
+there-fits item None t drawn ask is le small some fits asks =
+    free-fits item t drawn ask le small some fits asks
 there-fits item (Some hold) t drawn ask is le small some fits asks =
-    held-fits item hold t ask le (subst (λ o. IfSome o (λ h. h.cookie < 2 ^ 63)) is fits.cookie) fits asks
+    held-fits item hold t ask le (subst (λ o. IfSome o (λ h. h.cookie < 2 ^ 63)) is fits.cookie)
+    fits asks
 
 seen-fits : (old : Option Item) (t : ℕ) → IfSome old ItemFits → IfSome (seen old t) ItemFits
 seen-fits None t fits = tt
@@ -141,32 +240,55 @@ seen-fits (Some item) t fits = by_life (is_live item t)
     by_life true = fits
     by_life false = tt
 
-on_seen-fits : (old : Option Item) (t drawn : ℕ) (ask : Ask) → t ≤ 2 ^ 62 → drawn < 2 ^ 63 → (ask ≡ Acquire → 0 < drawn) → IfSome old ItemFits → AskFits ask → EffectFits (on_seen old t drawn ask)
+on_seen-fits : (old : Option Item) (t drawn : ℕ) (ask : Ask) → t ≤ 2 ^ 62 → drawn < 2 ^ 63
+    → (ask ≡ Acquire → 0 < drawn) → IfSome old ItemFits → AskFits ask
+    → EffectFits (on_seen old t drawn ask)
 on_seen-fits None t drawn ask le small some fits asks = absent-fits t ask le asks
-on_seen-fits (Some item) t drawn ask le small some fits asks = there-fits item item.holder t drawn ask refl le small some fits asks
+on_seen-fits (Some item) t drawn ask le small some fits asks =
+    there-fits item item.holder t drawn ask refl le small some fits asks
 
 -- a effect is in range
-pub effect-fits : (old : Option Item) (t drawn : ℕ) (ask : Ask) → t ≤ 2 ^ 62 → drawn < 2 ^ 63 → IfSome old ItemFits → AskFits ask → EffectFits (effect old t drawn ask)
+pub effect-fits : (old : Option Item) (t drawn : ℕ) (ask : Ask) → t ≤ 2 ^ 62 → drawn < 2 ^ 63
+    → IfSome old ItemFits → AskFits ask → EffectFits (effect old t drawn ask)
 effect-fits old t drawn Acquire le small fits asks = by_draw (drawn == 0) refl
   where
-    by_draw : (b : Bool) → (drawn == 0) ≡ b → EffectFits (cond b (replies.CookiesOut, old) (on_seen (seen old t) t drawn Acquire))
+    by_draw : (b : Bool) → (drawn == 0) ≡ b →
+        EffectFits (cond b (replies.CookiesOut, old) (on_seen (seen old t) t drawn Acquire))
     by_draw true e = (tt, tt, fits)
-    by_draw false e = on_seen-fits (seen old t) t drawn Acquire le small (λ _. grind (arith, nat_tests)) (seen-fits old t fits) asks
-effect-fits old t drawn Read le small fits asks = on_seen-fits (seen old t) t drawn Read le small (λ e. cc) (seen-fits old t fits) asks
-effect-fits old t drawn (Release cookie) le small fits asks = on_seen-fits (seen old t) t drawn (Release cookie) le small (λ e. cc) (seen-fits old t fits) asks
-effect-fits old t drawn (Write body minutes fresh cookie) le small fits asks = on_seen-fits (seen old t) t drawn (Write body minutes fresh cookie) le small (λ e. cc) (seen-fits old t fits) asks
-effect-fits old t drawn (Remove cookie) le small fits asks = on_seen-fits (seen old t) t drawn (Remove cookie) le small (λ e. cc) (seen-fits old t fits) asks
-effect-fits old t drawn Reset le small fits asks = on_seen-fits (seen old t) t drawn Reset le small (λ e. cc) (seen-fits old t fits) asks
+    by_draw false e = on_seen-fits (seen old t) t drawn Acquire le small
+        (λ _. grind (arith, nat_tests)) (seen-fits old t fits) asks
+effect-fits old t drawn Read le small fits asks =
+    on_seen-fits (seen old t) t drawn Read le small (λ e. cc) (seen-fits old t fits) asks
+effect-fits old t drawn (Release cookie) le small fits asks =
+    on_seen-fits (seen old t) t drawn (Release cookie) le small (λ e. cc) (seen-fits old t fits)
+    asks
+effect-fits old t drawn (Write body minutes fresh cookie) le small fits asks =
+    on_seen-fits (seen old t) t drawn (Write body minutes fresh cookie) le small (λ e. cc)
+    (seen-fits old t fits) asks
+effect-fits old t drawn (Remove cookie) le small fits asks =
+    on_seen-fits (seen old t) t drawn (Remove cookie) le small (λ e. cc) (seen-fits old t fits) asks
+effect-fits old t drawn Reset le small fits asks =
+    on_seen-fits (seen old t) t drawn Reset le small (λ e. cc) (seen-fits old t fits) asks
 
 -- so is a step
-pub Step-fits : (old new : Option Item) (t drawn : ℕ) (ask : Ask) (rose : Bool) (reply : Reply) → t ≤ 2 ^ 62 → drawn < 2 ^ 63 → IfSome old ItemFits → AskFits ask
+pub Step-fits : (old new : Option Item) (t drawn : ℕ) (ask : Ask) (rose : Bool) (reply : Reply)
+    → t ≤ 2 ^ 62 → drawn < 2 ^ 63 → IfSome old ItemFits → AskFits ask
     → Step old t drawn ask rose reply new → EffectFits (reply, new)
-Step-fits old new t drawn ask rose replies.NoMemory le small fits asks h = (tt, tt, subst (λ o. IfSome o ItemFits) (sym h) fits)
-Step-fits old new t drawn ask rose replies.KeeperFault le small fits asks h = (tt, tt, subst (λ o. IfSome o ItemFits) (sym h.1) fits)
-Step-fits old new t drawn ask rose (replies.Found body minutes cookie first) le small fits asks h = subst EffectFits (sym h) (effect-fits old t drawn ask le small fits asks)
-Step-fits old new t drawn ask rose replies.Done le small fits asks h = subst EffectFits (sym h) (effect-fits old t drawn ask le small fits asks)
-Step-fits old new t drawn ask rose (replies.Locked cookie a) le small fits asks h = subst EffectFits (sym h) (effect-fits old t drawn ask le small fits asks)
-Step-fits old new t drawn ask rose replies.Missing le small fits asks h = subst EffectFits (sym h) (effect-fits old t drawn ask le small fits asks)
-Step-fits old new t drawn ask rose replies.Bad le small fits asks h = subst EffectFits (sym h) (effect-fits old t drawn ask le small fits asks)
-Step-fits old new t drawn ask rose replies.CookiesOut le small fits asks h = subst EffectFits (sym h) (effect-fits old t drawn ask le small fits asks)
-Step-fits old new t drawn ask rose replies.PlacesOut le small fits asks h = subst EffectFits (sym h) (effect-fits old t drawn ask le small fits asks)
+Step-fits old new t drawn ask rose replies.NoMemory le small fits asks h =
+    (tt, tt, subst (λ o. IfSome o ItemFits) (sym h) fits)
+Step-fits old new t drawn ask rose replies.KeeperFault le small fits asks h =
+    (tt, tt, subst (λ o. IfSome o ItemFits) (sym h.1) fits)
+Step-fits old new t drawn ask rose (replies.Found body minutes cookie first) le small fits asks h =
+    subst EffectFits (sym h) (effect-fits old t drawn ask le small fits asks)
+Step-fits old new t drawn ask rose replies.Done le small fits asks h =
+    subst EffectFits (sym h) (effect-fits old t drawn ask le small fits asks)
+Step-fits old new t drawn ask rose (replies.Locked cookie a) le small fits asks h =
+    subst EffectFits (sym h) (effect-fits old t drawn ask le small fits asks)
+Step-fits old new t drawn ask rose replies.Missing le small fits asks h =
+    subst EffectFits (sym h) (effect-fits old t drawn ask le small fits asks)
+Step-fits old new t drawn ask rose replies.Bad le small fits asks h =
+    subst EffectFits (sym h) (effect-fits old t drawn ask le small fits asks)
+Step-fits old new t drawn ask rose replies.CookiesOut le small fits asks h =
+    subst EffectFits (sym h) (effect-fits old t drawn ask le small fits asks)
+Step-fits old new t drawn ask rose replies.PlacesOut le small fits asks h =
+    subst EffectFits (sym h) (effect-fits old t drawn ask le small fits asks)

@@ -1,4 +1,5 @@
--- Histories: what was done to the items of all sessions, in order. A history is a list of entries; the items at its beginning
+-- Histories: what was done to the items of all sessions, in order. A history is a list of entries;
+-- the items at its beginning
 -- are a function from keys to items.
 use Rattle.std.specs.Prelude.{◌≡◌, ◌⊎◌, ℕ, ◌+◌, ◌-◌, ◌<◌, ◌≤◌, ◌^◌, max, List, [], ◌∷◌, Option, Some, None, Bool, false, nat_le, min, if◌then◌else◌, IsTrue, IsFalse, IfSome, ⊤}
 use Rattle.std.specs.Str.{bytes_eq}
@@ -72,7 +73,8 @@ marked count (e ∷ es) = (has_risen count e.faults, e) ∷ marked e.faults es
 -- the entries on one key, in order
 abbrev pub entries_of : List ℕ → List Marked → List Marked
 entries_of key [] = []
-entries_of key (e ∷ es) = if is_deed_of key e.1.deed then e ∷ entries_of key es else entries_of key es
+entries_of key (e ∷ es) = if is_deed_of key e.1.deed then e ∷ entries_of key es else
+    entries_of key es
 
 -- the item after a request, which its reply fixes
 abbrev pub after_reply : Option Item → ℕ → ℕ → Ask → Reply → Option Item
@@ -103,7 +105,8 @@ IsDead (Some item) t = IsFalse (is_live item t)
 -- the deed may be done where the key has the item old
 abbrev pub DeedStands : Option Item → Bool → Deed → Entry → Type 0
 DeedStands old rose (Asked request) e =
-    Step old e.moment e.drawn request.ask rose e.reply (after_reply old e.moment e.drawn request.ask e.reply)
+    Step old e.moment e.drawn request.ask rose e.reply
+    (after_reply old e.moment e.drawn request.ask e.reply)
 DeedStands old rose (Expired key) e = IsDead old e.moment × (e.reply ≡ Done)
 DeedStands old rose Looked e = ⊤
 
@@ -144,7 +147,8 @@ pub record IsLegal (opening : List ℕ → Option Item) (count : ℕ) (list : Li
   pub formed : AllByRecursion IsFormed list
   pub counts : CountsRise count list
   pub draws : DrawsRise 0 list
-  pub fresh_draws : AllByRecursion (λ e. 0 < e.drawn → (key : List ℕ) → IsHeldBelow e.drawn (opening key)) list
+  pub fresh_draws : AllByRecursion (λ e. 0 < e.drawn → (key : List ℕ)
+      → IsHeldBelow e.drawn (opening key)) list
   pub keys : (key : List ℕ) → Lead (opening key) (entries_of key (marked count list))
   pub looks : AllByRecursion (λ e. LookStands e.0 e.1.deed e.1.reply) (marked count list)
 
@@ -157,10 +161,12 @@ abbrev pub count_after : ℕ → List Entry → ℕ
 count_after count [] = count
 count_after count (e ∷ es) = count_after e.faults es
 
--- A cookie that may be drawn behind the history: it is greater than each that was drawn, or is held in the opening map. 0 draws none.
+-- A cookie that may be drawn behind the history: it is greater than each that was drawn, or is held
+-- in the opening map. 0 draws none.
 abbrev pub IsFreshDraw : (List ℕ → Option Item) → List Entry → ℕ → Type 0
 IsFreshDraw opening list drawn =
-    (drawn ≡ 0) ⊎ (AllByRecursion (λ e. e.drawn < drawn) list × ((key : List ℕ) → IsHeldBelow drawn (opening key)))
+    (drawn ≡ 0) ⊎ (AllByRecursion (λ e. e.drawn < drawn) list
+    × ((key : List ℕ) → IsHeldBelow drawn (opening key)))
 
 -- the empty map: no key has an item
 abbrev pub nothing : List ℕ → Option Item

@@ -1,5 +1,7 @@
--- The session machine: what each request is answered, and what it leaves of its session's item ([MS-ASP], section 3.1.5;
--- the rules on cookies that are not in force, and on items that are absent, are this project's own).
+-- The session machine: what each request is answered, and what it leaves of its session's item
+-- ([MS-ASP], section 3.1.5;
+-- the rules on cookies that are not in force, and on items that are absent, are this project's
+-- own).
 use Rattle.std.specs.Prelude.{◌≡◌, ℕ, List, max, Bool, true, false, Option, Some, None, ◌==◌, if◌then◌else◌, IsTrue}
 use Rattle.asp_messages.specs.declared.request.Ask.{Ask}
 use Rattle.asp_messages.specs.declared.request.Ask.TheVariants.{Read, Acquire, Release, Write, Remove, Reset}
@@ -19,7 +21,14 @@ touch t item = record item { touched = max item.touched t }
 
 -- a free item that a write makes
 abbrev pub made : ℕ → List ℕ → ℕ → Bool → Item
-made t body minutes fresh = record { body = body; minutes = minutes; fresh = fresh; holder = None; touched = t }
+made t body minutes fresh = record {
+  body = body;
+  minutes = minutes;
+  fresh = fresh;
+  holder =
+      None;
+  touched = t;
+}
 
 -- where the session has no item
 abbrev pub on_absent : ℕ → Ask → Effect
@@ -28,14 +37,23 @@ on_absent t ask = (Missing, None)
 
 -- where it has an item and no lock
 abbrev pub on_free : Item → ℕ → ℕ → Ask → Effect
-on_free item t drawn Read = (Found item.body item.minutes None item.fresh, Some (touch t (record item { fresh = false })))
+on_free item t drawn Read = (
+  Found item.body item.minutes None item.fresh,
+  Some
+      (touch t (record item { fresh = false })),
+)
 on_free item t drawn Acquire = (
   Found item.body item.minutes (Some drawn) item.fresh,
-  Some (touch t (record item { fresh = false; holder = Some (record { cookie = drawn; since = t }) })),
+  Some (touch t (record item {
+    fresh = false;
+    holder =
+        Some (record { cookie = drawn; since = t });
+  })),
 )
 on_free item t drawn (Release cookie) = (Done, Some item)
 on_free item t drawn (Write body minutes true None) = (Done, Some item)
-on_free item t drawn (Write body minutes false None) = (Done, Some (touch t (record item { body = body; minutes = minutes; fresh = false })))
+on_free item t drawn (Write body minutes false None) =
+    (Done, Some (touch t (record item { body = body; minutes = minutes; fresh = false })))
 on_free item t drawn (Write body minutes fresh (Some cookie)) = (Locked 0 0, Some item)
 on_free item t drawn (Remove None) = (Done, None)
 on_free item t drawn (Remove (Some cookie)) = (Locked 0 0, Some item)
@@ -48,11 +66,21 @@ in_the_way hold t = Locked hold.cookie (age hold t)
 -- where it has an item under a lock
 abbrev pub on_held : Item → Hold → ℕ → Ask → Effect
 on_held item hold t (Release cookie) =
-    if cookie == hold.cookie then (Done, Some (touch t (record item { holder = None }))) else (in_the_way hold t, Some item)
+    if cookie == hold.cookie then (Done, Some (touch t (record item { holder = None }))) else
+    (in_the_way hold t, Some item)
 on_held item hold t (Write body minutes true None) = (Done, Some item)
 on_held item hold t (Write body minutes fresh (Some cookie)) =
     if cookie == hold.cookie
-    then (Done, Some (touch t (record item { body = body; minutes = minutes; fresh = fresh; holder = None })))
+    then (
+      Done,
+      Some (touch t (record item {
+        body = body;
+        minutes = minutes;
+        fresh = fresh;
+        holder =
+            None;
+      })),
+    )
     else (in_the_way hold t, Some item)
 on_held item hold t (Remove (Some cookie)) =
     if cookie == hold.cookie then (Done, None) else (in_the_way hold t, Some item)
@@ -69,12 +97,15 @@ abbrev pub on_seen : Option Item → ℕ → ℕ → Ask → Effect
 on_seen None t drawn ask = on_absent t ask
 on_seen (Some item) t drawn ask = on_there item item.holder t drawn ask
 
--- The machine's own reply, and the item after it. An acquire for which no cookie was left changes nothing.
+-- The machine's own reply, and the item after it. An acquire for which no cookie was left changes
+-- nothing.
 abbrev pub effect : Option Item → ℕ → ℕ → Ask → Effect
-effect old t drawn Acquire = if drawn == 0 then (CookiesOut, old) else on_seen (seen old t) t drawn Acquire
+effect old t drawn Acquire = if drawn == 0 then (CookiesOut, old) else
+    on_seen (seen old t) t drawn Acquire
 effect old t drawn ask = on_seen (seen old t) t drawn ask
 
--- From the item old, a request at the moment t that drew the cookie drawn may be answered so and leave new: by the machine's
+-- From the item old, a request at the moment t that drew the cookie drawn may be answered so and
+-- leave new: by the machine's
 -- own reply, or by want of memory or a counted fault of the keeper (rose), which change nothing.
 abbrev pub Step : Option Item → ℕ → ℕ → Ask → Bool → Reply → Option Item → Type 0
 Step old t drawn ask rose NoMemory new = new ≡ old

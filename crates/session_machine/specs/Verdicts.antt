@@ -13,9 +13,11 @@ use Rattle.session_machine.specs.declared.decision.Change.TheVariants as changes
 use Rattle.session_machine.specs.declared.decision.Verdict.{Verdict}
 use Rattle.session_machine.specs.Machine.{Effect}
 
--- the reply of this kind, `Found` with the content of the item that was there; the machine never answers `Bad`
+-- the reply of this kind, `Found` with the content of the item that was there; the machine never
+-- answers `Bad`
 abbrev pub reply_of : Kind → Option Item → Reply
-reply_of (kinds.Found cookie first) (Some item) = replies.Found item.body item.minutes (named cookie) first
+reply_of (kinds.Found cookie first) (Some item) =
+    replies.Found item.body item.minutes (named cookie) first
 reply_of (kinds.Found cookie first) None = replies.Bad
 reply_of kinds.Done old = replies.Done
 reply_of (kinds.Locked cookie age) old = replies.Locked cookie age

@@ -247,7 +247,8 @@ fn on_dead(ask: &Ask, t: u64) -> Verdict
 /// `drawn` is the cookie that was drawn for an acquire, 0 where none was left. It takes no memory.
 pub fn decide(item: Option<&Item>, t: u64, request: &Request, drawn: u64) -> Verdict
     requires { IfSome (option_copied item) ItemFits }
-    ensures { effect_of result (option_copied item.entry) request.now.ask ≡ effect (option_copied item.entry) t drawn request.now.ask }
+    ensures { effect_of result (option_copied item.entry) request.now.ask
+        ≡ effect (option_copied item.entry) t drawn request.now.ask }
 {
     if let Ask::Acquire = request.ask {
         if drawn == 0 {

@@ -14,7 +14,8 @@ use Rattle.shard_core.specs.declared.shard.Swept.{Swept}
 use Rattle.shard_core.specs.declared.shard.Swept.TheVariants as swept
 
 -- an item was removed: the one that expired first
-abbrev pub TellsRemoved : Option (List ℕ → Option Item) → Option (List ℕ → Option Item) → ℕ → List ℕ → Type 0
+abbrev pub TellsRemoved : Option (List ℕ → Option Item) → Option (List ℕ → Option Item) → ℕ → List ℕ
+    → Type 0
 TellsRemoved None None t key = ⊤
 TellsRemoved None (Some new) t key = ⊥
 TellsRemoved (Some old) None t key = ⊥
@@ -55,4 +56,12 @@ swept_reply swept.NoMemory = replies.NoMemory
 -- the entry of a look
 abbrev pub swept_entry : ℕ → ℕ → Swept → ℕ → Entry
 swept_entry caller t result faults =
-    record { caller = caller; moment = t; deed = swept_deed result; drawn = 0; reply = swept_reply result; faults = faults }
+    record {
+      caller = caller;
+      moment = t;
+      deed = swept_deed result;
+      drawn = 0;
+      reply =
+          swept_reply result;
+      faults = faults;
+    }

@@ -77,7 +77,8 @@ fn apply<K: Keeper>(
     requires key { KeyFits request.key }
     requires item { TellsItem (K.told keeper.old) request.key item }
     requires fits { IfSome (changed change item request.ask) ItemFits }
-    ensures ok { OnOk result (TellsSets (K.told keeper.old) (K.told keeper.new) request.key (changed change item request.ask)) }
+    ensures ok { OnOk result (TellsSets (K.told keeper.old) (K.told keeper.new) request.key
+        (changed change item request.ask)) }
     ensures err { OnErr result (K.told keeper.new ≡ K.told keeper.old) }
     ensures floor { K.floor keeper.new ≡ K.floor keeper.old }
     ensures cause { HasKeepCause (K.count keeper.old) (K.count keeper.new) result }
@@ -138,11 +139,13 @@ pub fn act_on<K: Keeper>(
     requires moment { t ≤ 2 ^ 62 }
     requires request { RequestFits request }
     requires drawn { DrawFits request.ask drawn }
-    ensures acts { TellsActs (K.told keeper.old) (K.told keeper.new) request t drawn (has_risen (K.count keeper.old) (K.count keeper.new)) result }
+    ensures acts { TellsActs (K.told keeper.old) (K.told keeper.new) request t drawn
+        (has_risen (K.count keeper.old) (K.count keeper.new)) result }
     ensures fits { ReplyFits result }
     ensures place { HasPlace result }
     ensures fault { result ≡ Reply.KeeperFault → Rose (K.count keeper.old) (K.count keeper.new) }
-    ensures out { IsOutOfCookies request.ask drawn → (result ≡ Reply.CookiesOut) × (keeper.new ≡ keeper.old) }
+    ensures out { IsOutOfCookies request.ask drawn
+        → (result ≡ Reply.CookiesOut) × (keeper.new ≡ keeper.old) }
     ensures cookies_out { result ≡ Reply.CookiesOut → IsOutOfCookies request.ask drawn }
     ensures count { K.count keeper.old ≤ K.count keeper.new }
     ensures floor { K.floor keeper.new ≡ K.floor keeper.old }

@@ -55,26 +55,35 @@ impl<K: Keeper> Shard<K> {
         Shard { alloc, keeper }
     }
 
-    /// Answers a request at the moment `t`, in milliseconds. `drawn` is the cookie that was drawn for
-    /// an acquire, 0 where none was left. At most one `get` of the keeper is made and then one `put` or
+    /// Answers a request at the moment `t`, in milliseconds. `drawn` is the cookie that was drawn
+    /// for
+    /// an acquire, 0 where none was left. At most one `get` of the keeper is made and then one
+    /// `put` or
     /// `cut`; the request's content is moved into the keeper.
     pub fn act(&mut self, request: Request, t: u64, drawn: u64) -> Reply
         requires moment { t ≤ 2 ^ 62 }
         requires request { RequestFits request }
         requires drawn { DrawFits request.ask drawn }
 
-        // The session machine takes one step; the reply is in range and has a place, over every keeper.
-        ensures acts { TellsActs (K.told self.old) (K.told self.new) request t drawn (has_risen (K.count self.old) (K.count self.new)) result }
+        // The session machine takes one step; the reply is in range and has a place, over every
+        // keeper.
+        ensures acts { TellsActs (K.told self.old) (K.told self.new) request t drawn
+            (has_risen (K.count self.old) (K.count self.new)) result }
         ensures fits { ReplyFits result }
         ensures place { HasPlace result }
 
-        // Behind each history that the keeper stands for, the request's entry makes a history that it stands for.
-        ensures history { (caller : ℕ) (opening : List ℕ → Option Item) (count : ℕ) (list : List Entry) → caller < 2 ^ 63
-            → IsFreshDraw opening list drawn → StandsFor opening count list (K.told self.old) (K.count self.old)
-            → StandsFor opening count (list ++ asked_entry caller t request drawn result (K.count self.new) ∷ []) (K.told self.new) (K.count self.new) }
+        // Behind each history that the keeper stands for, the request's entry makes a history that
+        // it stands for.
+        ensures history { (caller : ℕ) (opening : List ℕ → Option Item) (count : ℕ)
+            (list : List Entry) → caller < 2 ^ 63
+            → IsFreshDraw opening list drawn →
+            StandsFor opening count list (K.told self.old) (K.count self.old)
+            → StandsFor opening count (list ++ asked_entry caller t request drawn result
+            (K.count self.new) ∷ []) (K.told self.new) (K.count self.new) }
 
         ensures fault { result ≡ Reply.KeeperFault → Rose (K.count self.old) (K.count self.new) }
-        ensures out { IsOutOfCookies request.ask drawn → (result ≡ Reply.CookiesOut) × (self.new ≡ self.old) }
+        ensures out { IsOutOfCookies request.ask drawn
+            → (result ≡ Reply.CookiesOut) × (self.new ≡ self.old) }
         ensures cookies_out { result ≡ Reply.CookiesOut → IsOutOfCookies request.ask drawn }
         ensures count { K.count self.old ≤ K.count self.new }
         ensures floor { K.floor self.new ≡ K.floor self.old }
@@ -82,7 +91,8 @@ impl<K: Keeper> Shard<K> {
         act_on(self.alloc, &mut self.keeper, request, t, drawn)
     }
 
-    /// Looks for an item that has expired at the moment `t`, and removes the one that expired first.
+    /// Looks for an item that has expired at the moment `t`, and removes the one that expired
+    /// first.
     pub fn sweep_one(&mut self, t: u64) -> Swept
         requires { t ≤ 2 ^ 62 }
 
@@ -91,10 +101,13 @@ impl<K: Keeper> Shard<K> {
         ensures nothing { result ≡ Swept.Nothing → TellsDue (K.told self.old) t None }
         ensures unchanged { IsUnmoved result → K.told self.new ≡ K.told self.old }
 
-        // Behind each history that the keeper stands for, the look's entry makes a history that it stands for.
-        ensures history { (caller : ℕ) (opening : List ℕ → Option Item) (count : ℕ) (list : List Entry) → caller < 2 ^ 63
+        // Behind each history that the keeper stands for, the look's entry makes a history that it
+        // stands for.
+        ensures history { (caller : ℕ) (opening : List ℕ → Option Item) (count : ℕ)
+            (list : List Entry) → caller < 2 ^ 63
             → StandsFor opening count list (K.told self.old) (K.count self.old)
-            → StandsFor opening count (list ++ swept_entry caller t result (K.count self.new) ∷ []) (K.told self.new) (K.count self.new) }
+            → StandsFor opening count (list ++ swept_entry caller t result (K.count self.new) ∷ [])
+            (K.told self.new) (K.count self.new) }
 
         ensures fault { result ≡ Swept.KeeperFault → Rose (K.count self.old) (K.count self.new) }
         ensures count { K.count self.old ≤ K.count self.new }

@@ -43,12 +43,16 @@ impl Stream {
         }
     }
 
-    /// Adds a piece of at most 16,384 bytes; a broken stream keeps nothing. After `NoMemory` nothing
+    /// Adds a piece of at most 16,384 bytes; a broken stream keeps nothing. After `NoMemory`
+    /// nothing
     /// has changed.
     pub fn take(&mut self, piece: &[u8]) -> Result<(), NoMemory>
         requires piece { length piece.now ≤ most_piece }
         requires may_feed { IsTrue self.old.reader.may_feed }
-        ensures ok { OnOk result (self.new ≡ record self.old { reader = fed self.old.reader piece.now }) }
+        ensures ok { OnOk result (self.new ≡ record self.old {
+          reader =
+              fed self.old.reader piece.now;
+        }) }
         ensures err { OnErr result (self.new ≡ self.old) }
     {
         self.reader.feed(piece)
@@ -56,17 +60,20 @@ impl Stream {
 
     /// The first message of the bytes held, which is then due an answer.
     pub fn next(&mut self) -> Next
-        ensures message { IfNext result (TakesMessage SpellsRequest self.old.reader self.new.reader) }
+        ensures message { IfNext result (TakesMessage SpellsRequest self.old.reader
+            self.new.reader) }
         ensures is_due { self.new.is_due ≡ is_message result }
 
         // No message is whole, and there is room for more bytes.
         ensures more { result ≡ Next.More → self.new.reader ≡ waiting self.old.reader }
         ensures none_whole { result ≡ Next.More → HasNoMessage SpellsRequest self.old.reader.held }
-        ensures waits { result ≡ Next.More → IsWaiting IsRequestHead request_fields self.old.reader.held }
+        ensures waits { result ≡ Next.More → IsWaiting IsRequestHead request_fields
+            self.old.reader.held }
 
         // No bytes can follow that make a message, and the stream stays broken.
         ensures broken { result ≡ Next.Broken → self.new.reader ≡ broken }
-        ensures hopeless { result ≡ Next.Broken → IsTrue self.old.reader.is_broken ⊎ IsHopeless SpellsRequest self.old.reader.held }
+        ensures hopeless { result ≡ Next.Broken
+            → IsTrue self.old.reader.is_broken ⊎ IsHopeless SpellsRequest self.old.reader.held }
         ensures stays { IsTrue self.old.reader.is_broken → result ≡ Next.Broken }
 
         ensures no_memory { result ≡ Next.NoMemory → self.new.reader ≡ self.old.reader }
@@ -87,7 +94,8 @@ impl Stream {
         reply_head(reply)
     }
 
-    /// The head of the last `Bad` reply, where the bytes are no whole messages: the stream is broken, or
+    /// The head of the last `Bad` reply, where the bytes are no whole messages: the stream is
+    /// broken, or
     /// holds a byte. It takes no memory.
     pub fn finish(&mut self) -> Option<ReplyHead>
         ensures finished { IsNone result ↔ IsFinished self.old }

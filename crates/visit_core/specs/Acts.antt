@@ -6,7 +6,8 @@ use Rattle.visit_core.specs.declared.act.Act.{Act}
 use Rattle.visit_core.specs.declared.act.Act.TheVariants.{Send, WaitUntil, Run, Over}
 use Rattle.visit_core.specs.declared.outcome.Outcome.{Outcome}
 
--- what a visit does at a moment: it sends a request, waits until a later moment, lets the page run on the content and its mark, or is over
+-- what a visit does at a moment: it sends a request, waits until a later moment, lets the page run
+-- on the content and its mark, or is over
 pub data Action : Type 0 where
   send : Request → Action
   wait_until : ℕ → Action

@@ -9,7 +9,8 @@ with_number text n = text ++ codes " " ++ decimal n
 
 unfoldable pub outcome_spelling : Outcome → List ℕ
 outcome_spelling Done = codes "done"
-outcome_spelling (LostLocked cookie age) = with_number (with_number (codes "lost-lock locked") cookie) age
+outcome_spelling (LostLocked cookie age) = with_number
+    (with_number (codes "lost-lock locked") cookie) age
 outcome_spelling LostMissing = codes "lost-lock missing"
 outcome_spelling (GaveUp cookie age) = with_number (with_number (codes "gave-up") cookie) age
 outcome_spelling LinkFault = codes "link-fault"

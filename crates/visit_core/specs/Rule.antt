@@ -1,6 +1,9 @@
--- The rule of a visit: what it does next is fixed by its past, which is a list of events and no state. (Polling, the
--- forced release and the requests at a page's end are those of ASP.NET's SessionStateModule; the limit on polls, the
--- outcomes, and what follows the answers that its documentation leaves open are this project's own.)
+-- The rule of a visit: what it does next is fixed by its past, which is a list of events and no
+-- state. (Polling, the
+-- forced release and the requests at a page's end are those of ASP.NET's SessionStateModule; the
+-- limit on polls, the
+-- outcomes, and what follows the answers that its documentation leaves open are this project's
+-- own.)
 use Rattle.std.specs.Prelude.{◌≡◌, ◌≢◌, ℕ, ◌+◌, ◌<◌, List, [], ◌∷◌, ◌++◌, reverse, Option, Some, None, Bool, true, false, nat_le, nat_lt, if◌then◌else◌, ⊤}
 use Rattle.asp_messages.specs.declared.request.Request.{Request}
 use Rattle.asp_messages.specs.declared.request.Ask.{Ask}
@@ -17,7 +20,8 @@ use Rattle.visit_core.specs.declared.outcome.Outcome.TheVariants.{Done, LostLock
 use Rattle.visit_core.specs.Acts.{Action, send, wait_until, run, over, IsRun}
 use Rattle.visit_core.specs.Terms.{Terms, EndingFits, HeardFits}
 
--- an event in a visit's past: a request was answered at a moment, the page ended, or the link was lost
+-- an event in a visit's past: a request was answered at a moment, the page ended, or the link was
+-- lost
 pub data Event : Type 0 where
   heard : ℕ → Request → Heard → Event
   ended : Ending → Event
@@ -59,7 +63,8 @@ or_earlier (Some cookie) earlier = Some cookie
 -- the visit's own cookie
 abbrev pub own_cookie : List Event → Option ℕ
 own_cookie [] = None
-own_cookie (heard t request answer ∷ past) = or_earlier (cookie_found request.ask answer) (own_cookie past)
+own_cookie (heard t request answer ∷ past) = or_earlier (cookie_found request.ask answer)
+    (own_cookie past)
 own_cookie (ended ending ∷ past) = own_cookie past
 own_cookie (lost ∷ past) = own_cookie past
 
@@ -80,8 +85,10 @@ abbrev pub refused : Heard → Action
 refused (Reply reply) = over (Refused (status_number reply))
 refused (Strange status) = over (Refused status)
 
--- At moment u an ask for the session, the last of so many, met a lock of this cookie and age: the visit gives up where
--- the polls are used up, releases a lock that is older than a page may run, and else waits and asks again.
+-- At moment u an ask for the session, the last of so many, met a lock of this cookie and age: the
+-- visit gives up where
+-- the polls are used up, releases a lock that is older than a page may run, and else waits and asks
+-- again.
 abbrev pub after_locked : Terms → ℕ → ℕ → ℕ → ℕ → ℕ → Action
 after_locked terms count u cookie age t =
     if nat_le terms.limits.polls count
@@ -94,20 +101,25 @@ after_locked terms count u cookie age t =
 
 -- an answer before the page's end
 abbrev pub after_answer : Terms → ℕ → ℕ → Ask → Heard → ℕ → Action
-after_answer terms count u Acquire (Reply (Found body minutes (Some cookie) first)) t = run (Some body) first
+after_answer terms count u Acquire (Reply (Found body minutes (Some cookie) first)) t =
+    run (Some body) first
 after_answer terms count u Acquire (Reply Missing) t = run None false
-after_answer terms count u Acquire (Reply (Locked cookie age)) t = after_locked terms count u cookie age t
+after_answer terms count u Acquire (Reply (Locked cookie age)) t =
+    after_locked terms count u cookie age t
 after_answer terms count u Read (Reply (Found body minutes cookie first)) t = run (Some body) first
 after_answer terms count u Read (Reply Missing) t = run None false
-after_answer terms count u Read (Reply (Locked cookie age)) t = after_locked terms count u cookie age t
+after_answer terms count u Read (Reply (Locked cookie age)) t =
+    after_locked terms count u cookie age t
 after_answer terms count u Reset (Reply done_reply) t = over Done
 after_answer terms count u Reset (Reply Missing) t = over Done
 after_answer terms count u (Release own) (Reply done_reply) t = send_ask terms (ask_of terms.need)
 after_answer terms count u (Release own) (Reply Missing) t = send_ask terms (ask_of terms.need)
-after_answer terms count u (Release own) (Reply (Locked cookie age)) t = send_ask terms (ask_of terms.need)
+after_answer terms count u (Release own) (Reply (Locked cookie age)) t =
+    send_ask terms (ask_of terms.need)
 after_answer terms count u ask answer t = refused answer
 
--- what is asked at the page's end: only a page that may write asks, under its own cookie if it has one
+-- what is asked at the page's end: only a page that may write asks, under its own cookie if it has
+-- one
 abbrev pub ending_ask : Need → Option ℕ → Ending → Option Ask
 ending_ask Exclusive own (Save body minutes) = Some (Write body minutes false own)
 ending_ask Exclusive (Some own) Keep = Some (Release own)
@@ -138,7 +150,8 @@ act_after terms (heard u request answer ∷ past) t =
     if has_ended past
     then after_end answer
     else after_answer terms (locked_answers (heard u request answer ∷ past)) u request.ask answer t
-act_after terms (ended ending ∷ past) t = at_end terms (ending_ask terms.need (own_cookie past) ending)
+act_after terms (ended ending ∷ past) t = at_end terms
+    (ending_ask terms.need (own_cookie past) ending)
 act_after terms (lost ∷ past) t = after_loss (act_after terms past t)
 
 -- what the visit does at t, by its past
@@ -147,7 +160,8 @@ act_of terms past t = act_after terms (reverse past) t
 
 -- ---- lawful pasts
 
--- The event may follow where the visit acts so: an answer is to the request that is sent at its moment, and a page ends that runs.
+-- The event may follow where the visit acts so: an answer is to the request that is sent at its
+-- moment, and a page ends that runs.
 abbrev pub MayFollow : (ℕ → Action) → Event → Type 0
 MayFollow act (heard t request answer) = (act t ≡ send request) × HeardFits answer
 MayFollow act (ended ending) = ((t : ℕ) → IsRun (act t)) × EndingFits ending
@@ -164,13 +178,15 @@ IsLawful terms past = EachFollows terms (reverse past)
 
 -- ---- the forced release
 
--- The page needs its session's content, the last event is the answer to the visit's own ask that a lock of this cookie,
+-- The page needs its session's content, the last event is the answer to the visit's own ask that a
+-- lock of this cookie,
 -- older than a page may run, is in the way, and polls are left.
 pub record MeetsOldLock (terms : Terms) (past : List Event) (cookie : ℕ) : Type 0 where
   pub content : terms.need ≢ Off
   pub earlier : List Event
   pub moment : ℕ
   pub age : ℕ
-  pub last : past ≡ earlier ++ heard moment (record { key = terms.key; ask = ask_of terms.need }) (Reply (Locked cookie age)) ∷ []
+  pub last : past ≡ earlier ++ heard moment (record { key = terms.key; ask = ask_of terms.need })
+      (Reply (Locked cookie age)) ∷ []
   pub old : terms.limits.execution_secs < age
   pub polls_left : locked_answers past < terms.limits.polls

@@ -1,4 +1,5 @@
--- How a visit stands for its past. Above this crate only the names `HasPast`, `Sends`, `Runs` and `steps_left` are of use:
+-- How a visit stands for its past. Above this crate only the names `HasPast`, `Sends`, `Runs` and
+-- `steps_left` are of use:
 -- what they are good for is said by what the calls ensure.
 use Rattle.std.specs.Prelude.{◌≡◌, ℕ, ◌+◌, ◌-◌, ◌*◌, ◌<◌, ◌≤◌, List, reverse, None, IfSome, true, false, nat_lt, if◌then◌else◌, ⊤}
 use Rattle.asp_messages.specs.declared.request.Request.{Request}
@@ -12,7 +13,8 @@ use Rattle.visit_core.specs.Acts.{Action, wait_until, run, over}
 use Rattle.visit_core.specs.Terms.{Terms, LimitsFit}
 use Rattle.visit_core.specs.Rule.{Event, send_ask, ask_of, act_of, locked_answers, has_ended, own_cookie, IsLawful}
 
--- A visit: its terms, what it asks where its stage asks, how many asks for the session met a lock, and its stage.
+-- A visit: its terms, what it asks where its stage asks, how many asks for the session met a lock,
+-- and its stage.
 pub record Progress : Type 0 where
   pub terms : Terms
   pub ask : Ask
@@ -48,9 +50,11 @@ pub record IsSound (request : Request) (limits : Limits) (locked : ℕ) (stage :
 -- what a stage knows of the past, which has its latest event first
 abbrev pub Knows : Terms → Ask → ℕ → Stage → List Event → Type 0
 Knows terms ask locked (Asking from) past =
-    (ask ≡ ask_of terms.need) × (locked_answers past ≡ locked) × (has_ended past ≡ false) × (own_cookie past ≡ None)
+    (ask ≡ ask_of terms.need) × (locked_answers past ≡ locked) × (has_ended past ≡ false)
+    × (own_cookie past ≡ None)
 Knows terms ask locked Forcing past =
-    ((cookie : ℕ) × (ask ≡ Release cookie)) × (locked_answers past ≡ locked) × (has_ended past ≡ false) × (own_cookie past ≡ None)
+    ((cookie : ℕ) × (ask ≡ Release cookie)) × (locked_answers past ≡ locked)
+    × (has_ended past ≡ false) × (own_cookie past ≡ None)
 Knows terms ask locked (Running content first cookie) past = own_cookie past ≡ cookie
 Knows terms ask locked Ending past = has_ended past ≡ true
 Knows terms ask locked (Over outcome) past = ⊤
@@ -97,6 +101,7 @@ stage_steps polls_left (Running content first cookie) t = 2
 stage_steps polls_left Ending t = 1
 stage_steps polls_left (Over outcome) t = 0
 
--- at t the visit is over after at most so many steps, each an answer that is heard, a wait that is over, or the page's end
+-- at t the visit is over after at most so many steps, each an answer that is heard, a wait that is
+-- over, or the page's end
 abbrev pub steps_left : Progress → ℕ → ℕ
 steps_left visit t = stage_steps (visit.terms.limits.polls - visit.locked) visit.stage t

@@ -32,7 +32,8 @@ lock_met Acquire (Reply (Locked cookie age)) = Some (record { cookie = cookie; a
 lock_met Read (Reply (Locked cookie age)) = Some (record { cookie = cookie; age = age })
 lock_met ask answer = None
 
--- an ask for the session met a lock: the polls are used up, or the lock is too old, or the visit waits
+-- an ask for the session met a lock: the polls are used up, or the lock is too old, or the visit
+-- waits
 abbrev pub meets_lock_if : Bool → Bool → Progress → ℕ → Lock → Progress
 meets_lock_if true is_old visit t lock =
     record visit { locked = visit.locked + 1; stage = Over (GaveUp lock.cookie lock.age) }
@@ -44,7 +45,8 @@ meets_lock_if false false visit t lock =
 -- the two tests of a lock that was met
 abbrev pub meets_lock : Progress → ℕ → Lock → Progress
 meets_lock visit t lock =
-    meets_lock_if (nat_le visit.terms.limits.polls (visit.locked + 1)) (nat_lt visit.terms.limits.execution_secs lock.age) visit t lock
+    meets_lock_if (nat_le visit.terms.limits.polls (visit.locked + 1))
+    (nat_lt visit.terms.limits.execution_secs lock.age) visit t lock
 
 -- content without a cookie answers a plain read, and no acquisition
 abbrev pub acquired : List ℕ → Bool → Option ℕ → Stage

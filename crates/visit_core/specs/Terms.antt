@@ -8,7 +8,8 @@ use Rattle.visit_core.specs.declared.act.Ending.TheVariants.{Save, Keep, Abandon
 use Rattle.visit_core.specs.declared.act.Heard.{Heard}
 use Rattle.visit_core.specs.declared.act.Heard.TheVariants.{Reply, Strange}
 
--- The terms of a visit: the session's key, what the page needs of the session, and how long it asks.
+-- The terms of a visit: the session's key, what the page needs of the session, and how long it
+-- asks.
 pub record Terms : Type 0 where
   pub key : List ℕ
   pub need : Need

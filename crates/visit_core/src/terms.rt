@@ -51,7 +51,12 @@ pub struct Limits {
 }
 
 impl Default for Limits {
-    ghost is_default = { λ limits. limits ≡ record { execution_secs = 110; poll_ms = 500; polls = 1000 } };
+    ghost is_default = { λ limits. limits ≡ record {
+      execution_secs = 110;
+      poll_ms = 500;
+      polls =
+          1000;
+    } };
 
     /// ASP.NET's 110 seconds and half a second, and 1,000 polls.
     fn default() -> Limits {

@@ -15,7 +15,8 @@ use asp_messages::{Ask, Reply, Request};
 use std::marker::Model;
 
 /// One page's visit to the state server. It says at each moment what to do next, and is told what
-/// was heard, how the page ended, and that the link was lost. Contracts tie it to its past, the list
+/// was heard, how the page ended, and that the link was lost. Contracts tie it to its past, the
+/// list
 /// of these events: the calls lead from the empty past to a visit, and what it does is the rule of
 /// its past.
 #[derive(Debug, Drop)]
@@ -32,7 +33,17 @@ impl Model for Visit {
 
     ghost Value = { Progress };
 
-    ghost view = { λ v. record { terms = record { key = v.request.key; need = v.need; limits = v.limits }; ask = v.request.ask; locked = v.locked; stage = v.stage } };
+    ghost view = { λ v. record {
+      terms = record {
+        key = v.request.key;
+        need = v.need;
+        limits =
+            v.limits;
+      };
+      ask = v.request.ask;
+      locked = v.locked;
+      stage = v.stage;
+    } };
 
     ghost invariant = { λ v. IsSound v.request v.limits v.locked v.stage };
 }
@@ -63,11 +74,13 @@ impl Visit {
     /// What to do at the moment `t`, in milliseconds. Where it is `Send`, `heard` may be called at
     /// `t`, and where it is `Run`, `finish`.
     pub fn next(&self, t: u64) -> Act<'_>
-        ensures act { (past : List Event) → HasPast self.now past → action_of result ≡ act_of self.now.terms past t }
+        ensures act { (past : List Event) → HasPast self.now past
+            → action_of result ≡ act_of self.now.terms past t }
         ensures in_range { ActFits (action_of result) }
         ensures sends { IsSend (action_of result) → Sends self.now t }
         ensures runs { IsRun (action_of result) → Runs self.now }
-        ensures waits { (u : ℕ) → action_of result ≡ wait_until u → steps_left self.now u < steps_left self.now t }
+        ensures waits { (u : ℕ) → action_of result ≡ wait_until u
+            → steps_left self.now u < steps_left self.now t }
     {
         match &self.stage {
             Stage::Asking { from } if t < *from => Act::WaitUntil(*from),
@@ -159,7 +172,9 @@ impl Visit {
         requires sends { Sends self.old t }
         requires fits { HeardFits answer }
         ensures terms { self.new.terms ≡ self.old.terms }
-        ensures past { (past : List Event) (request : Request) → HasPast self.old past → act_of self.old.terms past t ≡ send request → HasPast self.new (past ++ heard t request answer ∷ []) }
+        ensures past { (past : List Event) (request : Request) → HasPast self.old past
+            → act_of self.old.terms past t ≡ send request
+            → HasPast self.new (past ++ heard t request answer ∷ []) }
         ensures steps { (u : ℕ) → steps_left self.new u < steps_left self.old t }
     {
         self.hear(t, answer);
@@ -168,7 +183,8 @@ impl Visit {
     /// The link to the state server is lost. A visit that is over keeps its outcome.
     pub fn lost_link(&mut self)
         ensures terms { self.new.terms ≡ self.old.terms }
-        ensures past { (past : List Event) → HasPast self.old past → HasPast self.new (past ++ lost ∷ []) }
+        ensures past { (past : List Event) → HasPast self.old past
+            → HasPast self.new (past ++ lost ∷ []) }
     {
         match self.stage {
             Stage::Over(_) => {}
@@ -181,7 +197,8 @@ impl Visit {
         requires runs { Runs self.old }
         requires fits { EndingFits ending }
         ensures terms { self.new.terms ≡ self.old.terms }
-        ensures past { (past : List Event) → HasPast self.old past → HasPast self.new (past ++ ended ending ∷ []) }
+        ensures past { (past : List Event) → HasPast self.old past
+            → HasPast self.new (past ++ ended ending ∷ []) }
         ensures steps { (t u : ℕ) → steps_left self.new u < steps_left self.old t }
     {
         let Stage::Running { cookie, .. } = self.stage else {

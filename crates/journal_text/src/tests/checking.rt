@@ -47,7 +47,8 @@ enum Answer {
 use Answer::*;
 use Did::*;
 
-// The letter of a key, a moment, what is done, the cookie drawn, what is answered, and the count of faults.
+// The letter of a key, a moment, what is done, the cookie drawn, what is answered, and the count of
+// faults.
 type Step = (u8, u32, Did, u64, Answer, u64);
 
 fn named(cookie: u64) -> Option<u64> {

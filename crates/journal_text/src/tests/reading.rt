@@ -14,11 +14,13 @@ pub struct Again {
     pub stops: Option<u64>,
 }
 
-/// Writes again each line that the reader has, at most `most` of them, and answers whether it may be
+/// Writes again each line that the reader has, at most `most` of them, and answers whether it may
+/// be
 /// fed.
 fn tell(reader: &mut JournalReader, lines: &mut Vec<u8>, most: usize) -> Result<bool, NoMemory>
     ensures may_feed { IfOk result (λ b. IsTrue b → IsTrue reader.new.may_feed) }
-    ensures counted { reader.new.offset + length reader.new.held ≤ reader.old.offset + length reader.old.held }
+    ensures counted { reader.new.offset + length reader.new.held ≤ reader.old.offset
+        + length reader.old.held }
 {
     'lines: for _ in 0..most {
         match reader.next() {
@@ -31,7 +33,8 @@ fn tell(reader: &mut JournalReader, lines: &mut Vec<u8>, most: usize) -> Result<
     Ok(false)
 }
 
-/// A text of fewer than 2^40 bytes, read in pieces of this size, at least 1 and at most 16,384 bytes.
+/// A text of fewer than 2^40 bytes, read in pieces of this size, at least 1 and at most 16,384
+/// bytes.
 pub fn read_again(alloc: Global, text: &[u8], size: usize) -> Result<Again, NoMemory> {
     let mut lines = Vec::new(alloc);
     let mut reader = JournalReader::new(alloc);

@@ -8,19 +8,25 @@ pub returns-in_err-why-clause-err : goal.returns-in_err-why-clause-err
 returns-in_err-why-clause-err c =
     let new = c.ask_there.new.item in
     on_err c.from_residual.result _
-    ((c.get_mut.follows.holds new).0 ∙ set_value_same _ _ new (sym c.in-Some.ensures.value ∙ ap Some (sym c.in_err-why.ensures.err)))
+    ((c.get_mut.follows.holds new).0 ∙ set_value_same _ _ new
+    (sym c.in-Some.ensures.value ∙ ap Some (sym c.in_err-why.ensures.err)))
 
 pub returns-in-Item-clause-asked : goal.returns-in-Item-clause-asked
 returns-in-Item-clause-asked c =
     let new = c.ask_there.new.item in
-    asked-item c.args.items.now c.args.request c.in-Some.item.now new c.args.t c.args.drawn c.args.rose c.args.reply c.in-Some.ensures.value (c.get_mut.follows.lender new)
+    asked-item c.args.items.now c.args.request c.in-Some.item.now new c.args.t c.args.drawn
+    c.args.rose c.args.reply c.in-Some.ensures.value (c.get_mut.follows.lender new)
     ((c.get_mut.follows.holds new).3 (some-there _ _ c.in-Some.ensures.value))
-    (subst (Leaves c.in-Some.item.now new c.args.t c.args.drawn c.args.rose c.args.request c.args.reply) c.in-Item.is c.in_ok-why.ensures.left)
+    (subst (Leaves c.in-Some.item.now new c.args.t c.args.drawn c.args.rose c.args.request
+    c.args.reply) c.in-Item.is c.in_ok-why.ensures.left)
 
 pub returns-in-Nothing-clause-asked : goal.returns-in-Nothing-clause-asked
 returns-in-Nothing-clause-asked c =
     let new = c.ask_there.new.item in
-    asked-nothing c.args.items.now c.args.request c.in-Some.item.now new c.args.t c.args.drawn c.args.rose c.args.reply c.in-Some.ensures.value (c.get_mut.follows.lender new)
-    c.remove.new.self c.in-Nothing.key ((c.get_mut.follows.holds new).3 (some-there _ _ c.in-Some.ensures.value))
-    (subst (Leaves c.in-Some.item.now new c.args.t c.args.drawn c.args.rose c.args.request c.args.reply) c.in-Nothing.is c.in_ok-why.ensures.left)
+    asked-nothing c.args.items.now c.args.request c.in-Some.item.now new c.args.t c.args.drawn
+    c.args.rose c.args.reply c.in-Some.ensures.value (c.get_mut.follows.lender new)
+    c.remove.new.self c.in-Nothing.key ((c.get_mut.follows.holds new).3
+    (some-there _ _ c.in-Some.ensures.value))
+    (subst (Leaves c.in-Some.item.now new c.args.t c.args.drawn c.args.rose c.args.request
+    c.args.reply) c.in-Nothing.is c.in_ok-why.ensures.left)
     c.remove.ensures.updates

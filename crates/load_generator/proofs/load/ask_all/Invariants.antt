@@ -8,8 +8,10 @@ use Rattle.load_generator.proofs.load.ask_all.Given as goal
 
 abbrev pub invariant-loop : goal.invariant-loop
 invariant-loop g l = record {
-  asked : (list : List Entry) × HasAsked g.K.Keeper.can_count l.fn.load.seed list (g.K.Keeper.told l.desk.keeper) (g.K.Keeper.count l.desk.keeper) l.desk.cookies
-      × (length list ≡ l.counter) × (l.generator ≡ generated (seeded l.fn.load.seed) list) × CountsAre l.counts list;
+  asked : (list : List Entry) × HasAsked g.K.Keeper.can_count l.fn.load.seed list
+      (g.K.Keeper.told l.desk.keeper) (g.K.Keeper.count l.desk.keeper) l.desk.cookies
+      × (length list ≡ l.counter) × (l.generator ≡ generated (seeded l.fn.load.seed) list)
+      × CountsAre l.counts list;
   made : l.generator.made ≡ l.counter;
   last : l.desk.cookies.last ≡ most_cookie;
   floor : g.K.Keeper.floor l.desk.keeper ≡ g.K.Keeper.floor l.fn.desk.keeper;

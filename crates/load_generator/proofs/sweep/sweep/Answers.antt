@@ -8,7 +8,9 @@ use Rattle.load_generator.proofs.sweep.sweep.Goals as goal
 
 pub loop-removed-init : goal.loop-removed-init
 loop-removed-init g c = record {
-  removes = λ first list stand. Removes-none g.K.Keeper.can_count first list (g.K.Keeper.told c.args.desk.now.keeper) (g.K.Keeper.count c.args.desk.now.keeper) c.args.desk.now.cookies stand;
+  removes = λ first list stand. Removes-none g.K.Keeper.can_count first list
+      (g.K.Keeper.told c.args.desk.now.keeper) (g.K.Keeper.count c.args.desk.now.keeper)
+      c.args.desk.now.cookies stand;
   within = omega arith;
   floor = refl;
 }
@@ -17,12 +19,18 @@ pub loop-removed-preserved : goal.loop-removed-preserved
 loop-removed-preserved g c = record {
   removes = λ first list stand.
       let before = c.loop-removed.invariant.removes first list stand in
-      let after = c.sweep_one.ensures.stands first 0 nothing 0 (list ++ before.removals) (omega arith) before.desk in
-      Removes-push g.K.Keeper.can_count first list (g.K.Keeper.told c.loop-removed.desk.keeper) (g.K.Keeper.told c.sweep_one.new.self.keeper)
-      (g.K.Keeper.count c.loop-removed.desk.keeper) (g.K.Keeper.count c.sweep_one.new.self.keeper) c.loop-removed.desk.cookies c.sweep_one.new.self.cookies
+      let after = c.sweep_one.ensures.stands first 0 nothing 0 (list ++ before.removals)
+      (omega arith) before.desk in
+      Removes-push g.K.Keeper.can_count first list (g.K.Keeper.told c.loop-removed.desk.keeper)
+      (g.K.Keeper.told c.sweep_one.new.self.keeper)
+      (g.K.Keeper.count c.loop-removed.desk.keeper) (g.K.Keeper.count c.sweep_one.new.self.keeper)
+      c.loop-removed.desk.cookies c.sweep_one.new.self.cookies
       c.loop-removed.removed c.in-Removed.key before
-      (subst (λ s. DeskStandsFor g.K.Keeper.can_count first nothing 0 (list ++ before.removals ++ swept_entry 0 last_moment s (g.K.Keeper.count c.sweep_one.new.self.keeper) ∷ [])
-      (g.K.Keeper.told c.sweep_one.new.self.keeper) (g.K.Keeper.count c.sweep_one.new.self.keeper) c.sweep_one.new.self.cookies) c.in-Removed.is after);
+      (subst (λ s. DeskStandsFor g.K.Keeper.can_count first nothing 0
+      (list ++ before.removals ++ swept_entry 0 last_moment s
+      (g.K.Keeper.count c.sweep_one.new.self.keeper) ∷ [])
+      (g.K.Keeper.told c.sweep_one.new.self.keeper) (g.K.Keeper.count c.sweep_one.new.self.keeper)
+      c.sweep_one.new.self.cookies) c.in-Removed.is after);
   within = omega (arith, c.loop-removed-test.true);
   floor = c.sweep_one.ensures.floor ∙ c.loop-removed.invariant.floor;
 }
@@ -31,14 +39,21 @@ pub returns-in_default : goal.returns-in_default
 returns-in_default g c = record {
   sweeps = λ first list stand.
       let before = c.loop-removed.invariant.removes first list stand in
-      Sweeps-look g.K.Keeper.can_count first c.args.most list (g.K.Keeper.told c.loop-removed.desk.keeper) (g.K.Keeper.told c.sweep_one.new.self.keeper)
-      (g.K.Keeper.count c.loop-removed.desk.keeper) (g.K.Keeper.count c.sweep_one.new.self.keeper) c.loop-removed.desk.cookies c.sweep_one.new.self.cookies
+      Sweeps-look g.K.Keeper.can_count first c.args.most list
+      (g.K.Keeper.told c.loop-removed.desk.keeper) (g.K.Keeper.told c.sweep_one.new.self.keeper)
+      (g.K.Keeper.count c.loop-removed.desk.keeper) (g.K.Keeper.count c.sweep_one.new.self.keeper)
+      c.loop-removed.desk.cookies c.sweep_one.new.self.cookies
       c.loop-removed.removed c.sweep_one.result before
-      (c.sweep_one.ensures.stands first 0 nothing 0 (list ++ before.removals) (omega arith) before.desk) (not_removed c.sweep_one.result c.in_default.not-Removed) c.sweep_one.ensures.nothing;
+      (c.sweep_one.ensures.stands first 0 nothing 0 (list ++ before.removals) (omega arith)
+      before.desk) (not_removed c.sweep_one.result c.in_default.not-Removed)
+      c.sweep_one.ensures.nothing;
   floor = c.sweep_one.ensures.floor ∙ c.loop-removed.invariant.floor;
 }
 
 pub returns-clause-sweeps : goal.returns-clause-sweeps
 returns-clause-sweeps g c = λ first list stand.
-    Sweeps-all g.K.Keeper.can_count first c.args.most list (g.K.Keeper.told c.loop-removed.desk.keeper) (g.K.Keeper.count c.loop-removed.desk.keeper) c.loop-removed.desk.cookies
-    c.loop-removed.removed (c.loop-removed.invariant.removes first list stand) (omega (arith, c.loop-removed.invariant.within, c.loop-removed-test.false))
+    Sweeps-all g.K.Keeper.can_count first c.args.most list
+    (g.K.Keeper.told c.loop-removed.desk.keeper) (g.K.Keeper.count c.loop-removed.desk.keeper)
+    c.loop-removed.desk.cookies
+    c.loop-removed.removed (c.loop-removed.invariant.removes first list stand)
+    (omega (arith, c.loop-removed.invariant.within, c.loop-removed-test.false))

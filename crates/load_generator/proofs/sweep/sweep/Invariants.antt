@@ -8,8 +8,10 @@ use Rattle.load_generator.proofs.sweep.sweep.Given as goal
 abbrev pub invariant-loop-removed : goal.invariant-loop-removed
 invariant-loop-removed g l = record {
   removes : (first : ℕ) (list : List Entry)
-      → DeskStandsFor g.K.Keeper.can_count first nothing 0 list (g.K.Keeper.told l.fn.desk.keeper) (g.K.Keeper.count l.fn.desk.keeper) l.fn.desk.cookies
-      → Removes g.K.Keeper.can_count first list (g.K.Keeper.told l.desk.keeper) (g.K.Keeper.count l.desk.keeper) l.desk.cookies l.removed;
+      → DeskStandsFor g.K.Keeper.can_count first nothing 0 list (g.K.Keeper.told l.fn.desk.keeper)
+      (g.K.Keeper.count l.fn.desk.keeper) l.fn.desk.cookies
+      → Removes g.K.Keeper.can_count first list (g.K.Keeper.told l.desk.keeper)
+      (g.K.Keeper.count l.desk.keeper) l.desk.cookies l.removed;
   within : l.removed ≤ l.fn.most;
   floor : g.K.Keeper.floor l.desk.keeper ≡ g.K.Keeper.floor l.fn.desk.keeper;
 }

@@ -8,10 +8,12 @@ pub returns-in_default-2 : goal.returns-in_default-2
 returns-in_default-2 c =
     let none = rw c.in_default-2.is at c.in_ok-key.ensures in
     λ page is. none page.key
-    (page_parts c.args.text.now c.in-Some.head.name c.in-Some.head.key.now c.in-Some.head.need c.in-Some.head.ending.now page c.in-Some.ensures is).0
+    (page_parts c.args.text.now c.in-Some.head.name c.in-Some.head.key.now c.in-Some.head.need
+    c.in-Some.head.ending.now page c.in-Some.ensures is).0
 
 pub returns-in_default-3 : goal.returns-in_default-3
 returns-in_default-3 c =
     let none = rw c.in_default-3.is at c.in_ok-ending.ensures in
     λ page is. none page.ending
-    (page_parts c.args.text.now c.in-Some.head.name c.in-Some.head.key.now c.in-Some.head.need c.in-Some.head.ending.now page c.in-Some.ensures is).1
+    (page_parts c.args.text.now c.in-Some.head.name c.in-Some.head.key.now c.in-Some.head.need
+    c.in-Some.head.ending.now page c.in-Some.ensures is).1

@@ -3,5 +3,6 @@ use Rattle.page_script.proofs.reading.read_line.Goals as goal
 
 pub returns-in-Some-behind-2-clause-none : goal.returns-in-Some-behind-2-clause-none
 returns-in-Some-behind-2-clause-none c =
-    no_step_read c.args.text.now c.in-Some-behind-2.words.now c.read_step.result c.map-in-Some-behind-2.result c.in-Some-behind-2.ensures
+    no_step_read c.args.text.now c.in-Some-behind-2.words.now c.read_step.result
+    c.map-in-Some-behind-2.result c.in-Some-behind-2.ensures
     c.read_step.ensures c.map-in-Some-behind-2.ensures.variant

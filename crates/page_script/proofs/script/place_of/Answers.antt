@@ -21,7 +21,8 @@ loop-i-preserved c =
     let pages = c.args.pages.now in
     let name = c.args.name.now in
     let page = c.index-pages-i.result in
-    let apart : page.name ≢ name = not_from_Decides (bytes_eq page.name name) (bytes_eq-Decides page.name name) (sym c.if-eq.ensures) in
+    let apart : page.name ≢ name = not_from_Decides (bytes_eq page.name name)
+    (bytes_eq-Decides page.name name) (sym c.if-eq.ensures) in
     let P : ScriptPage → Type 0 = λ (other : ScriptPage). other.name ≢ name in
     subst (AllByRecursion P) (sym (take_more pages c.loop-i.i page c.loop-i-test.true))
     (All-push P (take c.loop-i.i pages) _ c.loop-i.invariant (subst P c.index-pages-i.is apart))

@@ -16,7 +16,8 @@ returns-then-digits-most c =
       | then-digits-most-via-then-digits-most w ↦
           too_many text c.args.most (omega (arith, ap length whole, w.if-digits-most.true))
       | then-digits-most-via-else-digits-most+then-has_upper w ↦
-          upper_case text c.args.most (sym (ap (list_any is_upper) whole) ∙ sym w.has_upper.ensures ∙ w.if-has_upper.true)
+          upper_case text c.args.most (sym (ap (list_any is_upper) whole) ∙ sym w.has_upper.ensures
+          ∙ w.if-has_upper.true)
     ]
 
 pub returns-in-Ok : goal.returns-in-Ok
@@ -24,15 +25,20 @@ returns-in-Ok c =
     let text = c.args.text.now in
     let whole = take_rest text 1 in
     let some : 0 < length text = grind (arith, nat_tests) in
-    let short : length (drop 1 text) / 2 ≤ c.args.most = omega (arith, ap length whole, c.if-digits-most.false) in
-    let lower : list_any is_upper (drop 1 text) ≡ false = sym (ap (list_any is_upper) whole) ∙ sym c.has_upper.ensures ∙ c.if-has_upper.false in
-    let decoded : decode_of (drop 1 text) ≡ Ok c.in-Ok.bytes.items = ap decode_of (sym whole) ∙ c.in-Ok.ensures.ok in
-    rw c.adopt.ensures (string_read text c.in-Ok.bytes.items c.args.most some c.if-text-ne120.false short lower decoded)
+    let short : length (drop 1 text) / 2 ≤ c.args.most =
+    omega (arith, ap length whole, c.if-digits-most.false) in
+    let lower : list_any is_upper (drop 1 text) ≡ false = sym (ap (list_any is_upper) whole)
+    ∙ sym c.has_upper.ensures ∙ c.if-has_upper.false in
+    let decoded : decode_of (drop 1 text) ≡ Ok c.in-Ok.bytes.items = ap decode_of (sym whole)
+    ∙ c.in-Ok.ensures.ok in
+    rw c.adopt.ensures (string_read text c.in-Ok.bytes.items c.args.most some c.if-text-ne120.false
+    short lower decoded)
 
 pub returns-in_default : goal.returns-in_default
 returns-in_default c =
     let text = c.args.text.now in
     elim c.in-Err.ensures.err [
       | inl memory ↦ absurd (c.in_default.not-OutOfMemory memory)
-      | inr refused ↦ not_decoded text c.args.most c.in-Err.error (ap decode_of (sym (take_rest text 1)) ∙ refused)
+      | inr refused ↦ not_decoded text c.args.most c.in-Err.error
+          (ap decode_of (sym (take_rest text 1)) ∙ refused)
     ]

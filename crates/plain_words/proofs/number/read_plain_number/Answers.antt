@@ -4,7 +4,8 @@ use Rattle.plain_words.proofs.number.read_plain_number.Goals.{else-text-gt1-via-
 use Rattle.plain_words.proofs.number.read_plain_number.Goals as goal
 
 pub returns-then-text-eq48 : goal.returns-then-text-eq48
-returns-then-text-eq48 c = leading_zero c.args.text.now c.args.max c.ranges.max.fits c.if-text-gt1.true c.if-text-eq48.true
+returns-then-text-eq48 c = leading_zero c.args.text.now c.args.max c.ranges.max.fits
+    c.if-text-gt1.true c.if-text-eq48.true
 
 pub returns : goal.returns
 returns c =

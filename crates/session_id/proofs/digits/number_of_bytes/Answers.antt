@@ -8,7 +8,8 @@ number_of-requires-clause-below c = All-bytes c.args.bytes.now c.type_inv.bytes
 
 pub number_of-requires-clause-fits : goal.number_of-requires-clause-fits
 number_of-requires-clause-fits c =
-    let wide : 256 ^ length c.args.bytes.now ≤ 256 ^ 15 = pow-le-pow_right (omega arith) c.requires in
+    let wide : 256 ^ length c.args.bytes.now ≤ 256 ^ 15 =
+    pow-le-pow_right (omega arith) c.requires in
     omega (arith, wide)
 
 pub returns-clause-range : goal.returns-clause-range

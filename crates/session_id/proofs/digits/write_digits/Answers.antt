@@ -10,11 +10,13 @@ loop-i-preserved c =
     let now = c.loop-i.invariant.value in
     record {
       value = rw now (digits_step c.args.number c.args.base c.loop-i.i);
-      written = rw now (fill_by_more (λ k. c.args.number / c.args.base ^ k % c.args.base) c.loop-i.digits c.loop-i.i 0 (omega arith) c.loop-i.invariant.written);
+      written = rw now (fill_by_more (λ k. c.args.number / c.args.base ^ k % c.args.base)
+          c.loop-i.digits c.loop-i.i 0 (omega arith) c.loop-i.invariant.written);
     }
 
 pub returns : goal.returns
 unfolding digits
 returns c =
-    fill_by_all (λ k. c.args.number / c.args.base ^ k % c.args.base) c.loop-i.digits (length c.args.digits.now) 0
+    fill_by_all (λ k. c.args.number / c.args.base ^ k % c.args.base) c.loop-i.digits
+    (length c.args.digits.now) 0
     (omega arith) (λ k lt. c.loop-i.invariant.written k (omega arith))

@@ -10,7 +10,10 @@ pub returns-clause-text_of_each : goal.returns-clause-text_of_each
 returns-clause-text_of_each c id ok = IsTextOf-text_of id ok
 
 pub returns-clause-id_of_each : goal.returns-clause-id_of_each
-returns-clause-id_of_each c text ok = (digits 256 15 (number 32 (map digit_of text)), IsTextOf-digits text ok)
+returns-clause-id_of_each c text ok = (
+  digits 256 15 (number 32 (map digit_of text)),
+  IsTextOf-digits text ok,
+)
 
 pub returns-clause-one_text : goal.returns-clause-one_text
 returns-clause-one_text c id text h = same_text id text h

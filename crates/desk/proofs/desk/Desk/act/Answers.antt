@@ -9,13 +9,20 @@ pub returns-clause-stands : goal.returns-clause-stands
 returns-clause-stands g c = λ first caller opening count list caller_fits.
     let told = g.K.Keeper.told in
     let faults = g.K.Keeper.count in
-    subst (λ (d : DeskOf _). DeskStandsFor g.K.Keeper.can_count first opening count list (told d.keeper) (faults d.keeper) d.cookies
+    subst (λ (d : DeskOf _). DeskStandsFor g.K.Keeper.can_count first opening count list
+    (told d.keeper) (faults d.keeper) d.cookies
     → (c.draw_for-drawn.result ≡ draw_of first d.cookies.last (draws_in list) c.args.request.ask)
     × DeskStandsFor g.K.Keeper.can_count first opening count
-    (list ++ asked_entry caller c.args.t c.args.request c.draw_for-drawn.result c.act-reply.result (faults c.act-reply.new.self) ∷ [])
-    (told c.act-reply.new.self) (faults c.act-reply.new.self) c.draw_for-drawn.new.cookies) c.self.view_is
+    (list ++ asked_entry caller c.args.t c.args.request c.draw_for-drawn.result c.act-reply.result
+    (faults c.act-reply.new.self) ∷ [])
+    (told c.act-reply.new.self) (faults c.act-reply.new.self) c.draw_for-drawn.new.cookies)
+    c.self.view_is
     (λ stand.
-    goes_on-asked g.K.Keeper.can_count first opening count list (told c.self.inside.shard) (told c.act-reply.new.self)
-    (faults c.self.inside.shard) (faults c.act-reply.new.self) c.self.inside.cookies stand (g.K.Keeper.counts c.act-reply.new.self)
-    c.draw_for-drawn.new.cookies caller c.args.t c.draw_for-drawn.result c.args.request c.act-reply.result c.draw_for-drawn.ensures.draws
-    (λ fresh before. c.act-reply.ensures.history caller opening count list caller_fits fresh before))
+    goes_on-asked g.K.Keeper.can_count first opening count list (told c.self.inside.shard)
+    (told c.act-reply.new.self)
+    (faults c.self.inside.shard) (faults c.act-reply.new.self) c.self.inside.cookies stand
+    (g.K.Keeper.counts c.act-reply.new.self)
+    c.draw_for-drawn.new.cookies caller c.args.t c.draw_for-drawn.result c.args.request
+    c.act-reply.result c.draw_for-drawn.ensures.draws
+    (λ fresh before. c.act-reply.ensures.history caller opening count list caller_fits fresh
+    before))

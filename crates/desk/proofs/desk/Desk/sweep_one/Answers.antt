@@ -8,11 +8,15 @@ pub returns-clause-stands : goal.returns-clause-stands
 returns-clause-stands g c = λ first caller opening count list caller_fits.
     let told = g.K.Keeper.told in
     let faults = g.K.Keeper.count in
-    subst (λ (d : DeskOf _). DeskStandsFor g.K.Keeper.can_count first opening count list (told d.keeper) (faults d.keeper) d.cookies
-    → DeskStandsFor g.K.Keeper.can_count first opening count (list ++ swept_entry caller c.args.t c.sweep_one.result (faults c.sweep_one.new.self) ∷ [])
+    subst (λ (d : DeskOf _). DeskStandsFor g.K.Keeper.can_count first opening count list
+    (told d.keeper) (faults d.keeper) d.cookies
+    → DeskStandsFor g.K.Keeper.can_count first opening count
+    (list ++ swept_entry caller c.args.t c.sweep_one.result (faults c.sweep_one.new.self) ∷ [])
     (told c.sweep_one.new.self) (faults c.sweep_one.new.self) c.self.inside.cookies) c.self.view_is
     (λ stand.
-    goes_on-swept g.K.Keeper.can_count first opening count list (told c.self.inside.shard) (told c.sweep_one.new.self)
-    (faults c.self.inside.shard) (faults c.sweep_one.new.self) c.self.inside.cookies stand (g.K.Keeper.counts c.sweep_one.new.self)
+    goes_on-swept g.K.Keeper.can_count first opening count list (told c.self.inside.shard)
+    (told c.sweep_one.new.self)
+    (faults c.self.inside.shard) (faults c.sweep_one.new.self) c.self.inside.cookies stand
+    (g.K.Keeper.counts c.sweep_one.new.self)
     caller c.args.t c.sweep_one.result c.self.invariant.0
     (c.sweep_one.ensures.history caller opening count list caller_fits stand.stands))

@@ -11,13 +11,15 @@ invariant_of-self c =
     let m = c.self.inside.searched in
     let inv = c.self.invariant in
     let hay = take (length c.deref.result.now - m) (drop m c.deref.result.now) in
-    let hay_is : hay ≡ drop m xs = take_rest c.deref.result.now m ∙ ap (drop m) c.deref.ensures.value in
+    let hay_is : hay ≡ drop m xs = take_rest c.deref.result.now m
+    ∙ ap (drop m) c.deref.ensures.value in
     let first = c.in-Some.ensures in
     let below = first.0.high in
     let len = ap length hay_is ∙ length-drop m xs in (
       omega (arith, inv.0),
       omega (arith, inv.1, below, len),
-      sought_upto xs s m hay inv.0 inv.1 inv.2 hay_is c.in-Some.place (omega (arith, below)) first.0.before,
+      sought_upto xs s m hay inv.0 inv.1 inv.2 hay_is c.in-Some.place (omega (arith, below))
+          first.0.before,
     )
 
 pub invariant_of-self-in-None : goal.invariant_of-self-in-None
@@ -29,10 +31,12 @@ invariant_of-self-in-None c =
     let text = c.deref.ensures.value in
     let hay = take (length c.deref.result.now - m) (drop m c.deref.result.now) in
     let hay_is : hay ≡ drop m xs = take_rest c.deref.result.now m ∙ ap (drop m) text in
-    let whole : c.len-self-inside.result ≡ length xs = c.len-self-inside.ensures ∙ sym c.deref.ensures.len ∙ ap length text in (
+    let whole : c.len-self-inside.result ≡ length xs = c.len-self-inside.ensures
+    ∙ sym c.deref.ensures.len ∙ ap length text in (
       omega (arith, inv.0, inv.1, whole),
       omega (arith, whole),
-      sought_all xs s m hay inv.0 inv.1 inv.2 hay_is c.len-self-inside.result whole c.in-None.ensures,
+      sought_all xs s m hay inv.0 inv.1 inv.2 hay_is c.len-self-inside.result whole
+          c.in-None.ensures,
     )
 
 pub returns-in-Some-clause-line : goal.returns-in-Some-clause-line
@@ -42,10 +46,12 @@ returns-in-Some-clause-line c =
     let m = c.self.inside.searched in
     let inv = c.self.invariant in
     let hay = take (length c.deref.result.now - m) (drop m c.deref.result.now) in
-    let hay_is : hay ≡ drop m xs = take_rest c.deref.result.now m ∙ ap (drop m) c.deref.ensures.value in
+    let hay_is : hay ≡ drop m xs = take_rest c.deref.result.now m
+    ∙ ap (drop m) c.deref.ensures.value in
     let first = c.in-Some.ensures in
     let n = m + c.in-Some.place - s in
-    subst (λ (held : List ℕ). (n < length held) × SplitsAt 10 held (take n held) (drop (n + 1) held)) c.self.view_is
+    subst (λ (held : List ℕ). (n < length held)
+    × SplitsAt 10 held (take n held) (drop (n + 1) held)) c.self.view_is
     (found xs s m hay inv.0 inv.1 inv.2 hay_is c.in-Some.place first.0.high first.0.before first.1)
 
 pub returns-in-None-clause-line : goal.returns-in-None-clause-line
@@ -55,5 +61,7 @@ returns-in-None-clause-line c =
     let m = c.self.inside.searched in
     let inv = c.self.invariant in
     let hay = take (length c.deref.result.now - m) (drop m c.deref.result.now) in
-    let hay_is : hay ≡ drop m xs = take_rest c.deref.result.now m ∙ ap (drop m) c.deref.ensures.value in
-    subst (HasNo 10) c.self.view_is (none_held xs s m hay inv.0 inv.1 inv.2 hay_is c.in-None.ensures)
+    let hay_is : hay ≡ drop m xs = take_rest c.deref.result.now m
+    ∙ ap (drop m) c.deref.ensures.value in
+    subst (HasNo 10) c.self.view_is (none_held xs s m hay inv.0 inv.1 inv.2 hay_is
+    c.in-None.ensures)

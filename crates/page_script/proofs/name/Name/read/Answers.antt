@@ -12,4 +12,5 @@ invariant_of-result c =
       short = c.if-len-gt-MOST_LETTERS.false;
       lower = c.all_lower.ensures.0 c.if-not-all_lower.false;
     } in
-    subst (λ t. HoldsName (t ++ drop (length text) (replicate 16 0)) (length text)) (sym c.copy_from_slice.ensures.after) (HoldsName-front text is_name)
+    subst (λ t. HoldsName (t ++ drop (length text) (replicate 16 0)) (length text))
+    (sym c.copy_from_slice.ensures.after) (HoldsName-front text is_name)

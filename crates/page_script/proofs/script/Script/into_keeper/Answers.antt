@@ -5,7 +5,8 @@ use Rattle.page_script.proofs.LawfulLemmas.{lawful, forced}
 use Rattle.page_script.proofs.script.Script.into_keeper.Goals as goal
 
 pub returns-clause-lawful : goal.returns-clause-lawful
-returns-clause-lawful g c world stands = lawful g.K.Keeper.can_count g.K.Keeper.told g.K.Keeper.count c.args.self world stands
+returns-clause-lawful g c world stands = lawful g.K.Keeper.can_count g.K.Keeper.told
+    g.K.Keeper.count c.args.self world stands
 
 pub returns-clause-forced : goal.returns-clause-forced
 returns-clause-forced g c world stands =

@@ -13,9 +13,11 @@ returns-in_err-digits-clause-exact c =
 
 pub number_of-requires-clause-below : goal.number_of-requires-clause-below
 number_of-requires-clause-below c =
-    subst (All (λ d. d < 32)) (sym c.in_ok-digits.ensures.value) (All-digit_of c.args.text.now (sym c.in_ok-digits.ensures.found))
+    subst (All (λ d. d < 32)) (sym c.in_ok-digits.ensures.value)
+    (All-digit_of c.args.text.now (sym c.in_ok-digits.ensures.found))
 
-reads : (text ds bytes : List ℕ) (n : ℕ) → true ≡ is_text text → ds ≡ map digit_of text → n ≡ number 32 ds
+reads : (text ds bytes : List ℕ) (n : ℕ) → true ≡ is_text text → ds ≡ map digit_of text
+    → n ≡ number 32 ds
     → bytes ≡ digits 256 15 n → IsTextOf bytes text
 reads text ds bytes n is mapped value written =
     let same : bytes ≡ digits 256 15 (number 32 (map digit_of text)) =
@@ -25,11 +27,13 @@ reads text ds bytes n is mapped value written =
 pub returns-clause-value : goal.returns-clause-value
 returns-clause-value c =
     reads c.args.text.now c.in_ok-digits.digits c.write_digits.new.digits c.number_of.result
-    c.in_ok-digits.ensures.found c.in_ok-digits.ensures.value c.number_of.ensures c.write_digits.ensures
+    c.in_ok-digits.ensures.found c.in_ok-digits.ensures.value c.number_of.ensures
+    c.write_digits.ensures
 
 pub returns-clause-exact : goal.returns-clause-exact
 returns-clause-exact c id ok =
-    let both = exact-some c.write_digits.new.digits c.args.text.now id (returns-clause-value c) ok in (
+    let both = exact-some c.write_digits.new.digits c.args.text.now id (returns-clause-value c)
+    ok in (
       λ e. both.0 (same_Some c.write_digits.new.digits id e),
       λ e. ap Some (both.1 e),
     )
