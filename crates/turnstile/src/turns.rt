@@ -13,6 +13,7 @@ use std::alloc::Global;
 use std::hint::spin_loop;
 use std::marker::Brand;
 use std::sync::Wait;
+use std::sync::atomic::{AtomicU64, Ordering};
 use std::thread::yield_now;
 
 /// The word with the next ticket.
@@ -30,15 +31,21 @@ const STATE: usize = 0;
 /// Every place is below this number.
 const END_OF_PLACES: u64 = i64::MAX as u64;
 
-/// How often the caller whose turn comes next looks whether it has come, before it yields its processor.
+/// How often a caller looks whether nobody has a turn, before it sleeps.
 const LOOKS: u32 = 100;
+
+/// A thread sleeps on the serving word modulo this number.
+const PARKED_ON: u64 = 1 << 32;
 
 /// A state that threads have in turn, without a lock.
 ///
-/// A turn takes a ticket and waits until it is served. The ticket is the place of the entry that the turn leaves.
+/// A turn waits until nobody has one, and takes the ticket that is served next. The ticket is the
+/// place of the entry that the turn leaves.
 #[derive(Drop)]
 pub struct Turnstile<S: Stands> {
     table: Table<Option<S>, SeatView<S::Entry>, u64, TurnRule<S>, Global>,
+    /// How many callers sleep, or are about to, until a turn is left.
+    sleepers: AtomicU64,
     ghost three_words: { table.shared.table_id.words ≡ 3 },
     ghost one_slot: { table.shared.table_id.slots ≡ 1 },
 }
@@ -50,7 +57,8 @@ impl<S: Stands + Drop> Turnstile<S> {
     ghost use Rattle.turnstile.specs.Steps.{saw, with_ticket, left, compared, TurnComes, GrowsByOthers};
     ghost use Rattle.turnstile.specs.Turns.{first_place_of, turnstile_id, roll_home, passes_made, pass_home, caller_number, front, own_calls, ticket_seen, has_turn, state_of, IsSamePass, ExtendsByOthers};
 
-    /// A turnstile whose state stands for no entries yet, and its roll. After `NoMemory` the state is dropped.
+    /// A turnstile whose state stands for no entries yet, and its roll. After `NoMemory` the state
+    /// is dropped.
     pub fn new<R>(
         _rt: &R,
         alloc: Global,
@@ -67,7 +75,10 @@ impl<S: Stands + Drop> Turnstile<S> {
         slots.push_reserved(Some(state));
         match Table::new(alloc, &[first_place, first_place, 0], slots, &first_place) {
             Ok((table, seat)) => Ok(FreshTurns {
-                turns: Turnstile { table },
+                turns: Turnstile {
+                    table,
+                    sleepers: AtomicU64::new(0),
+                },
                 roll: TurnRoll { seat, made: 0 },
             }),
             Err(Refused { slots: _ }) => Err(NoMemory),
@@ -92,20 +103,26 @@ impl<S: Stands + Drop> Turnstile<S> {
         TurnPass { seat, number }
     }
 
-    /// Takes a ticket, waits until its turn has come, and gives the state. `Spent` comes exactly where the ticket word that the call looked at
-    /// stood at the end of places, 2^63 - 1, and for this pass from then on.
+    /// Waits until nobody has a turn, takes a ticket, and gives the state. `Spent` comes exactly
+    /// where the ticket word that the call looked at stood at the end of places, 2^63 - 1, and for
+    /// this pass from then on.
     ///
-    /// A caller whose turn comes next looks again at once. After 100 looks it yields its processor and begins anew, and a caller behind it
-    /// yields after one look, so that more threads than processors do not use up each other's time.
+    /// A caller takes a ticket only where it sees that it would be served at once, so a caller that
+    /// waits, and may not run, holds up nobody.
+    /// The order is that in which tickets are taken, and not that of the calls. After 100 looks a
+    /// caller sleeps until a turn is left.
     pub fn enter<R: Wait>(&self, rt: &R, pass: &mut TurnPass<S>) -> Result<Turn<S>, Spent>
         requires home { pass_home pass.old ≡ turnstile_id self.now }
         requires outside { has_turn pass.old ≡ false }
         ensures pass { IsSamePass pass.old pass.new }
 
         // The state stands for the whole history, which is the pass's new front.
-        ensures state { IfOk result (λ t. S.stands (state_of t) (first_place_of self.now) (front pass.new)) }
-        ensures front { IfOk result (λ _. ExtendsByOthers S.caller (caller_number pass.old) (front pass.old) (front pass.new)) }
-        ensures room { IfOk result (λ _. first_place_of self.now + length (front pass.new) < end_of_places) }
+        ensures state { IfOk result (λ t. S.stands (state_of t) (first_place_of self.now)
+            (front pass.new)) }
+        ensures front { IfOk result (λ _. ExtendsByOthers S.caller (caller_number pass.old)
+            (front pass.old) (front pass.new)) }
+        ensures room { IfOk result (λ _. first_place_of self.now + length
+            (front pass.new) < end_of_places) }
         ensures own { own_calls pass.new ≡ own_calls pass.old }
         ensures turn { IfOk result (λ _. has_turn pass.new ≡ true) }
 
@@ -117,7 +134,7 @@ impl<S: Stands + Drop> Turnstile<S> {
         ensures never_falls { ticket_seen pass.old ≤ ticket_seen pass.new }
         ensures at_most { ticket_seen pass.new ≤ end_of_places }
     {
-        let Some(ticket) = self.take_ticket(&mut pass.seat) else {
+        let Some(ticket) = self.take_ticket(rt, &mut pass.seat) else {
             return Err(Spent {
                 ticket: END_OF_PLACES,
             });
@@ -126,21 +143,36 @@ impl<S: Stands + Drop> Turnstile<S> {
         Ok(Turn { state })
     }
 
-    /// The next ticket, or `None` where the ticket word stood at the end of places.
+    /// The next ticket, taken where it is served at once, or `None` where the ticket word stood at
+    /// the end of places.
     ///
-    /// Where another caller was faster it tries for the ticket that it then found, which is greater.
-    fn take_ticket(&self, seat: &mut Seat<Option<S>, SeatView<S::Entry>>) -> Option<u64>
+    /// A caller that waits has no ticket, so nobody waits for it.
+    fn take_ticket<R: Wait>(
+        &self,
+        rt: &R,
+        seat: &mut Seat<Option<S>, SeatView<S::Entry>>,
+    ) -> Option<u64>
         requires home { seat.old.table_id ≡ self.now.table.shared.table_id }
-        requires outside { (seat.old.me.0.ticket ≡ None) × (seat.old.me.0.inside ≡ false) × (seat.old.me.0.first ≡ first_place_of self.now) }
+        requires outside { (seat.old.me.0.ticket ≡ None) × (seat.old.me.0.inside ≡ false)
+            × (seat.old.me.0.first ≡ first_place_of self.now) }
         requires number { (n : ℕ) × (seat.old.me.0.number ≡ Some n) }
         ensures home { seat.new.table_id ≡ seat.old.table_id }
-        ensures some { IfSome result (λ t. (seat.new.me ≡ (with_ticket seat.old.me.0 t, seat.old.me.1)) × (t < end_of_places)) }
-        ensures none { IfNone result (seat.new.me ≡ (saw seat.old.me.0 end_of_places, seat.old.me.1)) }
+        ensures some { IfSome result (λ t. (seat.new.me ≡ (
+          with_ticket seat.old.me.0 t,
+          seat.old.me.1,
+        )) × (t < end_of_places)) }
+        ensures none { IfNone result (seat.new.me ≡ (
+          saw seat.old.me.0 end_of_places,
+          seat.old.me.1,
+        )) }
         ensures never_falls { seat.old.me.0.seen ≤ seat.new.me.0.seen }
     {
         let shared = &self.table.shared;
-        let mut found = shared.load::<SeeTicket>(seat, TICKET);
-        for _ in found..END_OF_PLACES {
+        for _ in rt.forever() {
+            let Some(found) = self.look_often(seat) else {
+                self.sleep(rt);
+                continue;
+            };
             if found >= END_OF_PLACES {
                 return None;
             }
@@ -148,7 +180,41 @@ impl<S: Stands + Drop> Turnstile<S> {
             if at == found {
                 return Some(found);
             }
-            found = at;
+        }
+        unreachable!()
+    }
+
+    /// Sleeps until a turn is left, where one is to be left. It may also return for no reason.
+    ///
+    /// A turn that is left after the serving word was looked at changes that word, so that `park`
+    /// returns at once, or finds the sleeper counted, and wakes one.
+    fn sleep<R: Wait>(&self, rt: &R) {
+        let shared = &self.table.shared;
+        self.sleepers.fetch_add(1, Ordering::SeqCst);
+        let serving = shared.peek(SERVING);
+        if shared.peek(TICKET) != serving {
+            let low_bits = (serving % PARKED_ON) as u32;
+            shared.park(rt, SERVING, low_bits);
+        }
+        self.sleepers.fetch_sub(1, Ordering::SeqCst);
+    }
+
+    /// Looks for a while whether the next ticket would be served at once, or no ticket is left, and
+    /// answers the ticket word that it saw then.
+    fn look_often(&self, seat: &mut Seat<Option<S>, SeatView<S::Entry>>) -> Option<u64>
+        requires home { seat.old.table_id ≡ self.now.table.shared.table_id }
+        ensures home { seat.new.table_id ≡ seat.old.table_id }
+        ensures saw { seat.new.me ≡ (saw seat.old.me.0 seat.new.me.0.seen, seat.old.me.1) }
+        ensures found { IfSome result (λ n. (n ≡ seat.new.me.0.seen) × (n ≤ end_of_places)) }
+        ensures never_falls { seat.old.me.0.seen ≤ seat.new.me.0.seen }
+    {
+        let shared = &self.table.shared;
+        for _ in 0..LOOKS {
+            let found = shared.load::<SeeTicket>(seat, TICKET);
+            if found >= END_OF_PLACES || shared.peek(SERVING) == found {
+                return Some(found);
+            }
+            spin_loop();
         }
         None
     }
@@ -161,13 +227,14 @@ impl<S: Stands + Drop> Turnstile<S> {
         ticket: u64,
     ) -> S
         requires home { seat.old.table_id ≡ self.now.table.shared.table_id }
-        requires holds { (seat.old.me.0.ticket ≡ Some ticket) × (seat.old.me.0.inside ≡ false) × (seat.old.me.1 ≡ []) }
+        requires holds { (seat.old.me.0.ticket ≡ Some ticket) × (seat.old.me.0.inside ≡ false)
+            × (seat.old.me.1 ≡ []) }
         ensures home { seat.new.table_id ≡ seat.old.table_id }
         ensures slot { seat.new.me.1 ≡ (0, None) ∷ [] }
         ensures comes { TurnComes S.stands S.caller seat.old.me.0 ticket seat.new.me.0 result }
     {
         for _ in rt.forever() {
-            if let Some(state) = self.look_often(seat, ticket) {
+            if let Some(state) = self.look(seat, ticket) {
                 return state;
             }
             yield_now();
@@ -175,36 +242,34 @@ impl<S: Stands + Drop> Turnstile<S> {
         unreachable!()
     }
 
-    /// Looks whether the ticket is served, again and again while it is the next one, and takes the state once it is.
-    fn look_often(&self, seat: &mut Seat<Option<S>, SeatView<S::Entry>>, ticket: u64) -> Option<S>
+    /// Looks whether the ticket is served, and takes the state where it is.
+    fn look(&self, seat: &mut Seat<Option<S>, SeatView<S::Entry>>, ticket: u64) -> Option<S>
         requires home { seat.old.table_id ≡ self.now.table.shared.table_id }
-        requires holds { (seat.old.me.0.ticket ≡ Some ticket) × (seat.old.me.0.inside ≡ false) × (seat.old.me.1 ≡ []) }
+        requires holds { (seat.old.me.0.ticket ≡ Some ticket) × (seat.old.me.0.inside ≡ false)
+            × (seat.old.me.1 ≡ []) }
         ensures home { seat.new.table_id ≡ seat.old.table_id }
         ensures slot { IfSome result (λ _. seat.new.me.1 ≡ (0, None) ∷ []) }
-        ensures comes { IfSome result (λ s. TurnComes S.stands S.caller seat.old.me.0 ticket seat.new.me.0 s) }
+        ensures comes { IfSome result (λ s. TurnComes S.stands S.caller seat.old.me.0 ticket
+            seat.new.me.0 s) }
         ensures none { IfNone result (seat.new.me ≡ seat.old.me) }
     {
         let shared = &self.table.shared;
-        for _ in 0..LOOKS {
-            let found = shared.load::<Enter<S>>(seat, SERVING);
-            if found == ticket {
-                return shared.exchange(seat, STATE, None);
-            }
-            let is_next = found.wrapping_add(1) == ticket;
-            if !is_next {
-                return None;
-            }
-            spin_loop();
+        let found = shared.load::<Enter<S>>(seat, SERVING);
+        if found == ticket {
+            shared.exchange(seat, STATE, None)
+        } else {
+            None
         }
-        None
     }
 
-    /// Gives the state back, which stands for one more entry, and answers the entry's place.
+    /// Gives the state back, which stands for one more entry, wakes a caller that sleeps, if there
+    /// is one, and answers the entry's place.
     pub fn leave<R>(&self, _rt: &R, pass: &mut TurnPass<S>, turn: Turn<S>, entry: &S::Entry) -> u64
         requires home { pass_home pass.old ≡ turnstile_id self.now }
         requires turn { has_turn pass.old ≡ true }
         requires caller { S.caller entry.now ≡ caller_number pass.old }
-        requires state { S.stands (state_of turn) (first_place_of self.now) (front pass.old ++ entry.now ∷ []) }
+        requires state { S.stands (state_of turn) (first_place_of self.now)
+            (front pass.old ++ entry.now ∷ []) }
         ensures pass { IsSamePass pass.old pass.new }
         ensures place { result ≡ first_place_of self.now + length (front pass.old) }
         ensures front { front pass.new ≡ front pass.old ++ entry.now ∷ [] }
@@ -213,7 +278,11 @@ impl<S: Stands + Drop> Turnstile<S> {
         ensures seen { ticket_seen pass.new ≡ ticket_seen pass.old }
     {
         let Turn { state } = turn;
-        self.give::<Brand>(&mut pass.seat, state, entry)
+        let place = self.give::<Brand>(&mut pass.seat, state, entry);
+        if self.sleepers.load(Ordering::SeqCst) > 0 {
+            self.table.shared.wake_one(SERVING);
+        }
+        place
     }
 
     /// Puts the state back, and serves the next ticket.
@@ -224,10 +293,12 @@ impl<S: Stands + Drop> Turnstile<S> {
         entry: &S::Entry,
     ) -> u64
         requires said { W.entry ≡ Some entry.now }
-        requires home { (seat.old.table_id ≡ self.now.table.shared.table_id) × (seat.old.me.0.first ≡ first_place_of self.now) }
+        requires home { (seat.old.table_id ≡ self.now.table.shared.table_id)
+            × (seat.old.me.0.first ≡ first_place_of self.now) }
         requires turn { (seat.old.me.0.inside ≡ true) × (seat.old.me.1 ≡ (0, None) ∷ []) }
         requires caller { seat.old.me.0.number ≡ Some (S.caller entry.now) }
-        requires state { S.stands state (first_place_of self.now) (seat.old.me.0.front ++ entry.now ∷ []) }
+        requires state { S.stands state (first_place_of self.now)
+            (seat.old.me.0.front ++ entry.now ∷ []) }
         ensures home { seat.new.table_id ≡ seat.old.table_id }
         ensures place { result ≡ first_place_of self.now + length seat.old.me.0.front }
         ensures seat { seat.new.me ≡ (left seat.old.me.0 entry.now, []) }
@@ -244,10 +315,12 @@ impl<S: Stands + Drop> Turnstile<S> {
         ensures passes { IsSamePass a.old a.new × IsSamePass b.old b.new }
         ensures one { front b.new ≡ front a.new }
         ensures either { (front a.new ≡ front a.old) ⊎ (front a.new ≡ front b.old) }
-        ensures begins { IsPrefix (front a.old) (front a.new) × IsPrefix (front b.old) (front a.new) }
+        ensures begins { IsPrefix (front a.old) (front a.new)
+            × IsPrefix (front b.old) (front a.new) }
         ensures own { (own_calls a.new ≡ own_calls a.old) × (own_calls b.new ≡ own_calls b.old) }
         ensures turns { (has_turn a.new ≡ has_turn a.old) × (has_turn b.new ≡ has_turn b.old) }
-        ensures seen { (ticket_seen a.new ≡ ticket_seen a.old) × (ticket_seen b.new ≡ ticket_seen b.old) }
+        ensures seen { (ticket_seen a.new ≡ ticket_seen a.old)
+            × (ticket_seen b.new ≡ ticket_seen b.old) }
     {
         self.tell(a, b);
         self.tell(b, a);
@@ -255,9 +328,11 @@ impl<S: Stands + Drop> Turnstile<S> {
 
     /// Tells the second pass what the first knows.
     fn tell(&self, from: &mut TurnPass<S>, to: &mut TurnPass<S>)
-        requires homes { (pass_home from.old ≡ turnstile_id self.now) × (pass_home to.old ≡ turnstile_id self.now) }
+        requires homes { (pass_home from.old ≡ turnstile_id self.now)
+            × (pass_home to.old ≡ turnstile_id self.now) }
         ensures from { IsSamePass from.old from.new × (from.new.seat.me ≡ from.old.seat.me) }
-        ensures to { IsSamePass to.old to.new × (to.new.seat.me ≡ (compared (with_note to.old.seat.me.0 from.old.seat.me.0), to.old.seat.me.1)) }
+        ensures to { IsSamePass to.old to.new × (to.new.seat.me
+            ≡ (compared (with_note to.old.seat.me.0 from.old.seat.me.0), to.old.seat.me.1)) }
         ensures begins { IsPrefix (front from.old) (front to.new) }
         ensures grows { GrowsByOthers S.caller to.old.seat.me.0 to.new.seat.me.0 }
     {
