@@ -5,7 +5,7 @@ use Rattle.std.proofs.lemmas.Bool.Decides.{nat_tests}
 use Rattle.std.proofs.lemmas.List.{take_at, drop_at}
 use Rattle.asp_base.proofs.NumberLemmas.{number_of-le}
 use Rattle.asp_base.specs.Numbers.{number_of}
-use Rattle.asp_messages.specs.Fields.{Field, Standing, absent, one, twice, at_least, number_or, number_needed, body_length, most_body, once}
+use Rattle.asp_messages.specs.Fields.{Field, Occurrence, absent, one, twice, at_least, number_or, number_needed, body_length, most_body, once}
 use Rattle.asp_messages.specs.Head.{most_head}
 use Rattle.asp_messages.specs.Stream.{IsWaiting}
 
@@ -25,7 +25,7 @@ at_least-in least (Some k) n most small e = by_test (nat_le least k) refl e
         (omega arith, omega arith)
     by_test false test is = cc
 
-pub number_or-in : (default least most : ℕ) (s : Standing) (n : ℕ) → least ≤ default
+pub number_or-in : (default least most : ℕ) (s : Occurrence) (n : ℕ) → least ≤ default
     → default ≤ most → number_or default least most s ≡ Some n → (least ≤ n) × (n ≤ most)
 number_or-in default least most absent n low high e = let same : default ≡ n = cc in
     (omega arith, omega arith)
@@ -33,7 +33,8 @@ number_or-in default least most (one value) n low high e =
     at_least-in least (number_of value most) n most (λ k is. number_of-le value most k is) e
 number_or-in default least most twice n low high e = cc
 
-pub number_needed-le : (most : ℕ) (s : Standing) (n : ℕ) → number_needed most s ≡ Some n → n ≤ most
+pub number_needed-le : (most : ℕ) (s : Occurrence) (n : ℕ) → number_needed most s ≡ Some n
+    → n ≤ most
 number_needed-le most absent n e = cc
 number_needed-le most (one value) n e = number_of-le value most n e
 number_needed-le most twice n e = cc

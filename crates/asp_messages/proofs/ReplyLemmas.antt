@@ -5,7 +5,7 @@ use Rattle.httparse.specs.Grammar.{ReadsResponse, status_code}
 use Rattle.httparse.proofs.GrammarLemmas.{response_unique, ReadsResponse-append, print_response-append}
 use Rattle.asp_messages.specs.declared.reply.Reply.{Reply}
 use Rattle.asp_messages.specs.declared.reply.Reply.TheVariants.{Found, Done, Locked, Missing, Bad, KeeperFault, NoMemory, CookiesOut, PlacesOut}
-use Rattle.asp_messages.specs.Fields.{Field, Standing, absent, one, twice, once, at_least, body_length, most_body, most_cookie, most_minutes, number_needed, lock_cookie_field, named, response_fields}
+use Rattle.asp_messages.specs.Fields.{Field, Occurrence, absent, one, twice, once, at_least, body_length, most_body, most_cookie, most_minutes, number_needed, lock_cookie_field, named, response_fields}
 use Rattle.asp_messages.specs.Head.{most_head, IsReplyHead}
 use Rattle.asp_messages.specs.Ranges.{ReplyFits}
 use Rattle.asp_messages.specs.ReplySpelling.{Answer, reply, SpellsReply, answer_of, reply_of, strange_unless, found_reply, done_reply, ok_reply, locked_reply, plain_reply, minutes_field, action_flags_field, holder_field, age_field, most_age}
@@ -87,7 +87,7 @@ done_reply-fits : (body : List ℕ) (r : Reply) → done_reply body ≡ Some r �
 done_reply-fits [] r e = one_reply Done r tt e
 done_reply-fits (byte ∷ bytes) r e = no_reply r e
 
-ok_reply-fits : (timeout : Standing) (body : List ℕ) (found : Option Reply) (r : Reply)
+ok_reply-fits : (timeout : Occurrence) (body : List ℕ) (found : Option Reply) (r : Reply)
     → (found ≡ Some r → ReplyFits r)
     → ok_reply timeout body found ≡ Some r → ReplyFits r
 ok_reply-fits absent body found r fits e = done_reply-fits body r e
@@ -113,7 +113,8 @@ plain_reply-fits status r e =
     (chosen (status == 508) _ _ (Some r) (ReplyFits r) (one_reply PlacesOut r tt) (no_reply r))))))
     e
 
-minutes-in : (timeout : Standing) (n : ℕ) → at_least 1 (number_needed most_minutes timeout) ≡ Some n
+minutes-in : (timeout : Occurrence) (n : ℕ) →
+    at_least 1 (number_needed most_minutes timeout) ≡ Some n
     → (1 ≤ n) × (n ≤ most_minutes)
 minutes-in absent n e = cc
 minutes-in (one value) n e = number_or-in 1 1 most_minutes (one value) n (omega arith) (omega arith)

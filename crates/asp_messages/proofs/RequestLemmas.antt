@@ -12,7 +12,7 @@ use Rattle.asp_messages.specs.declared.request.Message.TheVariants.{Fit, Unfit}
 use Rattle.asp_messages.specs.declared.request.Request.{Request}
 use Rattle.asp_messages.specs.declared.request.Ask.{Ask}
 use Rattle.asp_messages.specs.declared.request.Ask.TheVariants.{Read, Acquire, Release, Write, Remove, Reset}
-use Rattle.asp_messages.specs.Fields.{Field, Standing, absent, one, twice, once, body_length, most_body, most_minutes, most_cookie, number_needed, timeout_field, extra_flags_field, lock_cookie_field, named, request_fields}
+use Rattle.asp_messages.specs.Fields.{Field, Occurrence, absent, one, twice, once, body_length, most_body, most_minutes, most_cookie, number_needed, timeout_field, extra_flags_field, lock_cookie_field, named, request_fields}
 use Rattle.asp_messages.specs.Ranges.{RequestFits, AskFits, KeyFits, CookieFits}
 use Rattle.asp_messages.specs.RequestSpelling.{SpellsRequest, message_of, ask_of, get_ask, put_ask, delete_ask, release_ask, fit_of, is_key}
 use Rattle.asp_messages.specs.Stream.{HasNoMessage}
@@ -90,7 +90,7 @@ release_ask-fits None ask small e = no_ask ask e
 release_ask-fits (Some c) ask small e = let le = small c refl in
     one_ask (Release c) ask (omega arith) e
 
-get_ask-fits : (exclusive : Standing) (cookie : Option ℕ) (ask : Ask)
+get_ask-fits : (exclusive : Occurrence) (cookie : Option ℕ) (ask : Ask)
     → ((c : ℕ) → cookie ≡ Some c → c ≤ most_cookie) → get_ask exclusive cookie ≡ Some ask
     → AskFits ask
 get_ask-fits absent cookie ask small e = one_ask Read ask tt e

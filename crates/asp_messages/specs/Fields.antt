@@ -25,19 +25,19 @@ values (field ∷ fields) name =
     if is_same_name field.0 name then field.1 ∷ values fields name else values fields name
 
 -- how often a field stands: never, once with a value, or more often
-pub data Standing : Type 0 where
-  absent : Standing
-  one : List ℕ → Standing
-  twice : Standing
+pub data Occurrence : Type 0 where
+  absent : Occurrence
+  one : List ℕ → Occurrence
+  twice : Occurrence
 
-abbrev pub standing : List (List ℕ) → Standing
-standing [] = absent
-standing (value ∷ []) = one value
-standing (value ∷ other ∷ others) = twice
+abbrev pub occurrence : List (List ℕ) → Occurrence
+occurrence [] = absent
+occurrence (value ∷ []) = one value
+occurrence (value ∷ other ∷ others) = twice
 
 -- how often the field of this name stands
-abbrev pub once : List Field → List ℕ → Standing
-once fields name = standing (values fields name)
+abbrev pub once : List Field → List ℕ → Occurrence
+once fields name = occurrence (values fields name)
 
 -- ---- numbers in fields
 
@@ -48,14 +48,14 @@ at_least least (Some n) = if nat_le least n then Some n else None
 
 -- the number of a field that may be absent: the default then, and none where it stands twice, is no
 -- number or is out of range
-abbrev pub number_or : ℕ → ℕ → ℕ → Standing → Option ℕ
+abbrev pub number_or : ℕ → ℕ → ℕ → Occurrence → Option ℕ
 number_or default least most absent = Some default
 number_or default least most (one value) = at_least least (number_of value most)
 number_or default least most twice = None
 
 -- the number of a field that is needed: none where it is absent, stands twice, is no number or is
 -- too large
-abbrev pub number_needed : ℕ → Standing → Option ℕ
+abbrev pub number_needed : ℕ → Occurrence → Option ℕ
 number_needed most absent = None
 number_needed most (one value) = number_of value most
 number_needed most twice = None

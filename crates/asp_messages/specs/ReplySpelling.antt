@@ -5,7 +5,7 @@ use Rattle.std.specs.Prelude.{◌≡◌, ℕ, ◌^◌, List, [], ◌∷◌, code
 use Rattle.httparse.specs.Grammar.{ResponseHead, status_code}
 use Rattle.asp_messages.specs.declared.reply.Reply.{Reply}
 use Rattle.asp_messages.specs.declared.reply.Reply.TheVariants.{Found, Done, Locked, Missing, Bad, KeeperFault, NoMemory, CookiesOut, PlacesOut}
-use Rattle.asp_messages.specs.Fields.{Field, Standing, absent, one, twice, once, at_least, number_or, number_needed, most_cookie, most_minutes, lock_cookie_field, named, response_fields}
+use Rattle.asp_messages.specs.Fields.{Field, Occurrence, absent, one, twice, once, at_least, number_or, number_needed, most_cookie, most_minutes, lock_cookie_field, named, response_fields}
 use Rattle.asp_messages.specs.Head.{IsReplyHead}
 use Rattle.asp_messages.specs.Stream.{IsFramed}
 
@@ -50,7 +50,7 @@ done_reply [] = Some Done
 done_reply (byte ∷ bytes) = None
 
 -- 200: the content where `Timeout` stands, else done
-abbrev pub ok_reply : Standing → List ℕ → Option Reply → Option Reply
+abbrev pub ok_reply : Occurrence → List ℕ → Option Reply → Option Reply
 ok_reply absent body found = done_reply body
 ok_reply (one value) body found = found
 ok_reply twice body found = found

@@ -9,7 +9,7 @@ use Rattle.asp_messages.specs.declared.request.Ask.{Ask}
 use Rattle.asp_messages.specs.declared.request.Ask.TheVariants.{Read, Acquire, Release, Write, Remove, Reset}
 use Rattle.asp_messages.specs.declared.request.Message.{Message}
 use Rattle.asp_messages.specs.declared.request.Message.TheVariants.{Fit, Unfit}
-use Rattle.asp_messages.specs.Fields.{Field, Standing, absent, one, twice, once, number_needed, most_cookie, timeout_field, extra_flags_field, lock_cookie_field, named, request_fields}
+use Rattle.asp_messages.specs.Fields.{Field, Occurrence, absent, one, twice, once, number_needed, most_cookie, timeout_field, extra_flags_field, lock_cookie_field, named, request_fields}
 use Rattle.asp_messages.specs.Head.{IsRequestHead}
 use Rattle.asp_messages.specs.Stream.{IsFramed}
 
@@ -29,7 +29,7 @@ exclusive_ask word cookie =
 
 -- `GET`: a plain read where `Exclusive` is absent, else what its word says; the cookie is that of
 -- `LockCookie`
-abbrev pub get_ask : Standing → Option ℕ → Option Ask
+abbrev pub get_ask : Occurrence → Option ℕ → Option Ask
 get_ask absent cookie = Some Read
 get_ask (one word) cookie = exclusive_ask word cookie
 get_ask twice cookie = None

@@ -14,7 +14,7 @@ use Rattle.shard_core.specs.declared.shard.Swept.{Swept}
 use Rattle.shard_core.specs.declared.shard.Swept.TheVariants as swept
 use Rattle.shard_core.specs.Standing.{StandsFor, asked_entry}
 use Rattle.shard_core.specs.Sweeping.{swept_entry, swept_deed}
-use Rattle.desk.specs.Draws.{Draws, draw_of, draws, deed_draws, draws_in}
+use Rattle.desk.specs.Draws.{DrawsNext, draw_of, draws, deed_draws, draws_in}
 use Rattle.desk.specs.Standing.{DeskStandsFor}
 
 pub draws_in-push : (es : List Entry) (e : Entry)
@@ -57,7 +57,7 @@ module _ (CanCount : ℕ → Type 0) (first : ℕ) (opening : List ℕ → Optio
   where
     -- a request was answered, and drew its cookie by counting
     pub goes_on-asked : (cookies' : Counter) (caller t drawn : ℕ) (r : Request) (reply : Reply)
-        → Draws cookies cookies' r.ask drawn
+        → DrawsNext cookies cookies' r.ask drawn
         → (IsFreshDraw opening list drawn → StandsFor opening count list told now
         → StandsFor opening count (list ++ asked_entry caller t r drawn reply now' ∷ []) told'
         now')

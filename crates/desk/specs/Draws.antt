@@ -33,7 +33,7 @@ abbrev pub CookiesFit : Counter → Type 0
 CookiesFit cookies = (0 < cookies.next) × (cookies.last < 2 ^ 63)
 
 -- The ask drew its cookie by counting.
-pub record Draws (old new : Counter) (ask : Ask) (drawn : ℕ) : Type 0 where
+pub record DrawsNext (old new : Counter) (ask : Ask) (drawn : ℕ) : Type 0 where
   pub nth : (first j : ℕ) → first ≤ old.last → old.next ≡ counter_after first old.last j
       → (drawn ≡ draw_of first old.last j ask)
       × (new.next ≡ counter_after first old.last (j + draws ask))

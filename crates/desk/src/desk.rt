@@ -9,7 +9,7 @@ ghost use Rattle.cookie_source.specs.Counting.{Counter};
 ghost use Rattle.keeper.specs.Due.{TellsDue};
 ghost use Rattle.shard_core.specs.Standing.{asked_entry};
 ghost use Rattle.shard_core.specs.Sweeping.{swept_entry};
-ghost use Rattle.desk.specs.Draws.{CookiesFit, Draws, draw_of, draws_in};
+ghost use Rattle.desk.specs.Draws.{CookiesFit, DrawsNext, draw_of, draws_in};
 ghost use Rattle.desk.specs.Standing.{DeskStandsFor};
 
 use asp_messages::{Ask, Reply, Request};
@@ -49,7 +49,7 @@ impl<K> Model for Desk<K> {
 /// The cookie of an acquire, 0 where none is left or the request is no acquire.
 fn draw_for(cookies: &mut PlainCookies, ask: &Ask) -> u64
     requires { CookiesFit cookies.old }
-    ensures draws { Draws cookies.old cookies.new ask.now result }
+    ensures draws { DrawsNext cookies.old cookies.new ask.now result }
     ensures fits { DrawFits ask.now result }
 {
     match ask {

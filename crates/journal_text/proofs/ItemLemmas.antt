@@ -15,7 +15,7 @@ use Rattle.session_machine.specs.Liveness.{ItemFits}
 use Rattle.journal_text.specs.Checking.{item_among}
 use Rattle.journal_text.specs.declared.asking.Left.{Left}
 use Rattle.journal_text.specs.declared.asking.Left.TheVariants as left
-use Rattle.journal_text.specs.Deeds.{IsDone, IsLeft, ItemsFit, Leaves, Sets, own_reply}
+use Rattle.journal_text.specs.Deeds.{IsDone, IsLeft, ItemsFit, Leaves, ReplacesItem, own_reply}
 use Rattle.journal_text.specs.Judging.{IsRightReply}
 use Rattle.journal_text.proofs.JudgingLemmas.{bytes_eq-same}
 
@@ -27,7 +27,7 @@ other-key key other h = is_eq-slice_cmp key other ∙ nat_list_eq_equiv.symm key
 -- an update of a map sets the key's item
 pub updates-Sets : (m n : BTreeMap (List ℕ) Item) (key : List ℕ) (item : Option Item)
     → UpdatesBy (slice_cmp nat_cmp) (slice_cmp nat_cmp key) m n item
-    → Sets m.entries n.entries key item
+    → ReplacesItem m.entries n.entries key item
 updates-Sets m n key item updates = record {
   same = updates.1;
   others = λ other apart. updates.2 other (other-key key other apart);
@@ -35,7 +35,8 @@ updates-Sets m n key item updates = record {
 
 -- of two in turn the later holds
 pub Sets-again : (first second third : List (List ℕ × Item)) (key : List ℕ) (one item : Option Item)
-    → Sets first second key one → Sets second third key item → Sets first third key item
+    → ReplacesItem first second key one → ReplacesItem second third key item
+    → ReplacesItem first third key item
 Sets-again first second third key one item sets again = record {
   same = again.same;
   others = λ other apart. again.others other apart ∙ sets.others other apart;
@@ -43,12 +44,12 @@ Sets-again first second third key one item sets again = record {
 
 -- an item that stays is set
 pub Sets-same : (pairs : List (List ℕ × Item)) (key : List ℕ) (item : Option Item)
-    → item ≡ item_among pairs key → Sets pairs pairs key item
+    → item ≡ item_among pairs key → ReplacesItem pairs pairs key item
 Sets-same pairs key item is = record { same = sym is; others = λ other apart. refl }
 
 -- items in range stay so where what is set is in range
 pub Sets-fit : (old new : List (List ℕ × Item)) (key : List ℕ) (item : Option Item)
-    → Sets old new key item → IfSome item ItemFits → ItemsFit old → ItemsFit new
+    → ReplacesItem old new key item → IfSome item ItemFits → ItemsFit old → ItemsFit new
 Sets-fit old new key item sets fits all other = by_key (bytes_eq other key) refl
   where
     by_key : (b : Bool) → bytes_eq other key ≡ b → IfSome (item_among new other) ItemFits
@@ -79,9 +80,10 @@ module _ (m : BTreeMap (List ℕ) Item) (request : Request) (old new : Item) (t 
         → IsDone m.entries n.entries (Asked request) t drawn rose reply
     asked-item n updates leaves =
         subst (λ o. IsRightReply rose (own_reply o t drawn request) reply
-        × Sets m.entries n.entries request.key (after_reply o t drawn request.ask reply)) there (
+        × ReplacesItem m.entries n.entries request.key (after_reply o t drawn request.ask reply))
+        there (
           leaves.0,
-          subst (Sets m.entries n.entries request.key) (sym leaves.1)
+          subst (ReplacesItem m.entries n.entries request.key) (sym leaves.1)
               (updates-Sets m n request.key (Some new) updates),
         )
 
@@ -92,14 +94,14 @@ module _ (m : BTreeMap (List ℕ) Item) (request : Request) (old new : Item) (t 
         → UpdatesBy (slice_cmp nat_cmp) (slice_cmp nat_cmp key) n last None
         → IsDone m.entries last.entries (Asked request) t drawn rose reply
     asked-nothing n last key updates leaves removes =
-        let again : Sets n.entries last.entries request.key None =
-        subst (λ k. Sets n.entries last.entries k None) leaves.1.1
+        let again : ReplacesItem n.entries last.entries request.key None =
+        subst (λ k. ReplacesItem n.entries last.entries k None) leaves.1.1
         (updates-Sets n last key None removes) in
         subst (λ o. IsRightReply rose (own_reply o t drawn request) reply
-        × Sets m.entries last.entries request.key (after_reply o t drawn request.ask reply))
+        × ReplacesItem m.entries last.entries request.key (after_reply o t drawn request.ask reply))
         there (
           leaves.0,
-          subst (Sets m.entries last.entries request.key) (sym leaves.1.0)
+          subst (ReplacesItem m.entries last.entries request.key) (sym leaves.1.0)
               (Sets-again m.entries n.entries last.entries request.key (Some new) None
               (updates-Sets m n request.key (Some new) updates) again),
         )

@@ -22,7 +22,8 @@ abbrev pub ItemsFit : List (List ℕ × Item) → Type 0
 ItemsFit pairs = (key : List ℕ) → IfSome (item_among pairs key) ItemFits
 
 -- The key has this item, and every other key has what it had.
-pub record Sets (old new : List (List ℕ × Item)) (key : List ℕ) (item : Option Item) : Type 0 where
+pub record ReplacesItem (old new : List (List ℕ × Item)) (key : List ℕ) (item : Option Item) : Type
+    0 where
   pub same : item_among new key ≡ item
   pub others : (other : List ℕ) → bytes_eq other key ≡ false
       → item_among new other ≡ item_among old other
@@ -62,9 +63,10 @@ abbrev pub IsDone : List (List ℕ × Item) → List (List ℕ × Item) → Deed
     → Type 0
 IsDone old new (Asked request) t drawn rose reply =
     IsRightReply rose (own_reply (item_among old request.key) t drawn request) reply
-    × Sets old new request.key (after_reply (item_among old request.key) t drawn request.ask reply)
+    × ReplacesItem old new request.key (after_reply (item_among old request.key) t drawn request.ask
+    reply)
 IsDone old new (Expired key) t drawn rose reply = IsDead (item_among old key) t
-    × Sets old new key None
+    × ReplacesItem old new key None
 IsDone old new Looked t drawn rose reply = IsRightReply rose Done reply × (new ≡ old)
 
 -- the deed may not be done

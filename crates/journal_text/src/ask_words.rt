@@ -1,6 +1,6 @@
 //! The spelling of an ask, read.
 ghost use Rattle.std.specs.Prelude.{◌≢◌, ◌++◌, codes, IfOk, IfSome, IfNone};
-ghost use Rattle.plain_words.specs.Words.{Reads};
+ghost use Rattle.plain_words.specs.Words.{ReadsAs};
 ghost use Rattle.journal_text.specs.Spelled.{IsAsk};
 
 use crate::content_words::read_content;
@@ -11,14 +11,14 @@ use plain_words::read_plain_number;
 use std::alloc::Global;
 
 fn read_release(cookie: &[u8]) -> Option<Ask>
-    ensures { Reads (IsAsk (codes "release " ++ cookie.now)) result }
+    ensures { ReadsAs (IsAsk (codes "release " ++ cookie.now)) result }
 {
     let cookie = read_plain_number(cookie, MOST_COOKIE)?;
     Some(Ask::Release { cookie })
 }
 
 fn read_remove(cookie: &[u8]) -> Option<Ask>
-    ensures { Reads (IsAsk (codes "remove " ++ cookie.now)) result }
+    ensures { ReadsAs (IsAsk (codes "remove " ++ cookie.now)) result }
 {
     let cookie = read_plain_number(cookie, MOST_COOKIE)?;
     Some(Ask::Remove {
@@ -27,7 +27,7 @@ fn read_remove(cookie: &[u8]) -> Option<Ask>
 }
 
 fn read_write(alloc: Global, content: &[u8]) -> Result<Option<Ask>, NoMemory>
-    ensures { IfOk result (Reads (IsAsk (codes "write " ++ content.now))) }
+    ensures { IfOk result (ReadsAs (IsAsk (codes "write " ++ content.now))) }
 {
     match read_content(alloc, content)? {
         Some(content) => Ok(Some(Ask::Write {
@@ -60,7 +60,7 @@ fn one_word_ask(text: &[u8]) -> Option<Ask>
 /// want
 /// of memory for its content.
 pub fn read_ask(alloc: Global, text: &[u8]) -> Result<Option<Ask>, NoMemory>
-    ensures { IfOk result (Reads (IsAsk text.now)) }
+    ensures { IfOk result (ReadsAs (IsAsk text.now)) }
 {
     if let Some(content) = strip(text, b"write ") {
         return read_write(alloc, content);

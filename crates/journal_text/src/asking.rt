@@ -6,7 +6,7 @@ ghost use Rattle.session_machine.specs.History.{DrawFits};
 ghost use Rattle.session_machine.specs.Liveness.{ItemFits};
 ghost use Rattle.session_machine.specs.Verdicts.{changed, body_asked};
 ghost use Rattle.journal_text.specs.Checking.{item_among};
-ghost use Rattle.journal_text.specs.Deeds.{IsBarred, IsDone, IsLeft, ItemsFit, Leaves, Sets};
+ghost use Rattle.journal_text.specs.Deeds.{IsBarred, IsDone, IsLeft, ItemsFit, Leaves, ReplacesItem};
 
 use crate::Why;
 use crate::replies::{is_refusal, wrong_reply};
@@ -113,7 +113,7 @@ fn change_absent(
     change: Change,
 ) -> Result<(), NoMemory>
     requires { item_among items.old.entries request.key ≡ None }
-    ensures ok { OnOk result (Sets items.old.entries items.new.entries request.key
+    ensures ok { OnOk result (ReplacesItem items.old.entries items.new.entries request.key
         (changed change None request.ask)) }
     ensures err { OnErr result (items.new.entries ≡ items.old.entries) }
 {

@@ -1,7 +1,7 @@
 //! The words that a write and what was found have in common.
 ghost use Rattle.std.specs.Prelude.{◌≡◌, IfOk};
 ghost use Rattle.asp_messages.specs.Fields as fields;
-ghost use Rattle.plain_words.specs.Words.{Reads};
+ghost use Rattle.plain_words.specs.Words.{ReadsAs};
 ghost use Rattle.journal_text.specs.Spelled.{IsContent};
 
 use crate::number_words::cut_number;
@@ -27,7 +27,7 @@ pub struct Content {
 /// The
 /// only error is want of memory for the content.
 pub fn read_content(alloc: Global, text: &[u8]) -> Result<Option<Content>, NoMemory>
-    ensures { IfOk result (Reads (IsContent text.now)) }
+    ensures { IfOk result (ReadsAs (IsContent text.now)) }
 {
     let Some((cookie, behind_cookie)) = cut_number(text, MOST_COOKIE) else {
         return Ok(None);

@@ -1,6 +1,6 @@
 //! The line of an entry, read.
 ghost use Rattle.std.specs.Prelude.{◌≡◌, ◌↔◌, ℕ, List, IsTrue, IfOk, MatchOption};
-ghost use Rattle.plain_words.specs.Words.{Reads};
+ghost use Rattle.plain_words.specs.Words.{ReadsAs};
 ghost use Rattle.journal_text.specs.Spelled.{IsDeed, IsEntry, IsCut, AnswerFits};
 
 use crate::ask_words::read_ask;
@@ -57,7 +57,7 @@ fn cut_line(line: &[u8]) -> Option<Cut<'_>>
 /// only
 /// error is want of memory for its key and content.
 fn read_deed(alloc: Global, key: &[u8], text: &[u8]) -> Result<Option<Deed>, NoMemory>
-    ensures { IfOk result (Reads (IsDeed key.now text.now)) }
+    ensures { IfOk result (ReadsAs (IsDeed key.now text.now)) }
 {
     if is(key, b"-") {
         return Ok(if is(text, b"looked") {
@@ -101,7 +101,7 @@ fn answer_fits(deed: &Deed, drawn: u64, reply: &Reply) -> bool
 /// is
 /// want of memory for its keys and content.
 pub fn read_entry(alloc: Global, line: &[u8]) -> Result<Option<Entry>, NoMemory>
-    ensures { IfOk result (Reads (IsEntry line.now)) }
+    ensures { IfOk result (ReadsAs (IsEntry line.now)) }
 {
     let Some(cut) = cut_line(line) else {
         return Ok(None);

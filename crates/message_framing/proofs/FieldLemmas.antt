@@ -18,7 +18,7 @@ values-push (g ∷ gs) f name =
     ap (λ vs. cond (is_same_name g.0 name) (g.1 ∷ vs) vs) (values-push gs f name)
     ∙ values-append-step (is_same_name g.0 name) g.1 (values gs name) (values (f ∷ []) name)
 
-standing-push : (vs : List (List ℕ)) (v : List ℕ) → fields.standing (vs ++ v ∷ []) ≡ one_more (fields.standing vs) v
+standing-push : (vs : List (List ℕ)) (v : List ℕ) → fields.occurrence (vs ++ v ∷ []) ≡ one_more (fields.occurrence vs) v
 standing-push [] v = refl
 standing-push (w ∷ []) v = refl
 standing-push (w ∷ x ∷ vs) v = refl
@@ -31,13 +31,13 @@ append-nil' (v ∷ vs) = ap (λ t. v ∷ t) (append-nil' vs)
 pub once-found : (fs : List (List ℕ × List ℕ)) (f : List ℕ × List ℕ) (name : List ℕ) → is_same_name f.0 name ≡ true
     → once (fs ++ f ∷ []) name ≡ one_more (once fs name) f.1
 once-found fs f name same =
-    ap fields.standing (values-push fs f name ∙ ap (λ b. values fs name ++ cond b (f.1 ∷ []) []) same) ∙ standing-push (values fs name) f.1
+    ap fields.occurrence (values-push fs f name ∙ ap (λ b. values fs name ++ cond b (f.1 ∷ []) []) same) ∙ standing-push (values fs name) f.1
 
 -- a field of another name
 pub once-other : (fs : List (List ℕ × List ℕ)) (f : List ℕ × List ℕ) (name : List ℕ) → is_same_name f.0 name ≡ false
     → once (fs ++ f ∷ []) name ≡ once fs name
 once-other fs f name other =
-    ap fields.standing (values-push fs f name ∙ ap (λ b. values fs name ++ cond b (f.1 ∷ []) []) other ∙ append-nil' (values fs name))
+    ap fields.occurrence (values-push fs f name ∙ ap (λ b. values fs name ++ cond b (f.1 ∷ []) []) other ∙ append-nil' (values fs name))
 
 next_field : (buf : List ℕ) (headers : List HeaderSpan) (i : ℕ) (d : HeaderSpan) → i < length headers
     → map (header_bytes buf) (take (i + 1) headers) ≡ map (header_bytes buf) (take i headers) ++ header_bytes buf (get_or headers i d) ∷ []

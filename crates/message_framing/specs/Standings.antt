@@ -5,13 +5,13 @@ use Rattle.message_framing.specs.declared.fields.Standing.TheVariants.{Absent, O
 use Rattle.asp_messages.specs.Fields as fields
 
 -- how often the field stands
-abbrev pub standing_of : Standing → fields.Standing
+abbrev pub standing_of : Standing → fields.Occurrence
 standing_of Absent = fields.absent
 standing_of (One value) = fields.one value.now
 standing_of Twice = fields.twice
 
 -- with one value more
-abbrev pub one_more : fields.Standing → List ℕ → fields.Standing
+abbrev pub one_more : fields.Occurrence → List ℕ → fields.Occurrence
 one_more fields.absent value = fields.one value
 one_more (fields.one other) value = fields.twice
 one_more fields.twice value = fields.twice

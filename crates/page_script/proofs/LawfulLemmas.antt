@@ -16,7 +16,7 @@ use Rattle.lock_laws.proofs.WayLemmas.{lock_in_the_way}
 use Rattle.visit_core.specs.declared.terms.Need.{Need}
 use Rattle.visit_core.specs.declared.terms.Need.TheVariants.{Exclusive, ReadOnly, Off}
 use Rattle.visit_core.specs.declared.act.Heard.TheVariants.{Reply}
-use Rattle.visit_core.specs.Rule.{Event, heard, ask_of, IsLawful, MeetsOldLock}
+use Rattle.visit_core.specs.Rule.{Event, heard, ask_for, IsLawful, MeetsOldLock}
 use Rattle.visit_core.specs.Terms.{Terms}
 use Rattle.visit_core.proofs.ReleaseLemmas.{releases}
 use Rattle.page_script.specs.declared.script.Script.{Script}
@@ -83,7 +83,7 @@ last_turn number (turn ∷ turns) events event is =
 
 -- ---- a release by force
 
-content-ask : (need : Need) → need ≢ Off → is_content_ask (ask_of need) ≡ true
+content-ask : (need : Need) → need ≢ Off → is_content_ask (ask_for need) ≡ true
 content-ask Exclusive apart = refl
 content-ask ReadOnly apart = refl
 content-ask Off apart = absurd (apart refl)
@@ -94,7 +94,7 @@ module _ (turns : List Turn) (number : ℕ) (page : Page) (cookie : ℕ)
     (met : MeetsOldLock page.terms page.past cookie)
   where
     abbrev request : Request
-    request = record { key = page.terms.key; ask = ask_of page.terms.need }
+    request = record { key = page.terms.key; ask = ask_for page.terms.need }
 
     abbrev event : Event
     event = heard met.moment request (Reply (Locked cookie met.age))

@@ -5,7 +5,7 @@ use Rattle.std.specs.List.{AllByRecursion}
 use Rattle.std.proofs.lemmas.Bool.Decides.{nat_tests}
 use Rattle.std.proofs.lemmas.List.Elements.{filter-append}
 use Rattle.page_script.specs.declared.script_page.ScriptPage.{ScriptPage}
-use Rattle.page_script.specs.Places.{IsUnused, IsPlaceOf}
+use Rattle.page_script.specs.Places.{IsUnused, IsIndexOf}
 use Rattle.page_script.specs.World.{Page, Turn, event_of, turns_of, HasName}
 use Rattle.page_script.specs.Standing.{PageStands, PagesStand}
 
@@ -177,7 +177,7 @@ unused-no_name turns first helds pages name stand unused has =
     (names-apart turns first helds pages name stand unused)) has.4
 
 pub place-has_name : (turns : List Turn) (helds : List ScriptPage) (pages : List Page)
-    (name : List ℕ) (n : ℕ) → PagesStand turns 0 helds pages → IsPlaceOf helds name n
+    (name : List ℕ) (n : ℕ) → PagesStand turns 0 helds pages → IsIndexOf helds name n
     → HasName pages name
 place-has_name turns helds pages name n stand place =
     let at : 0 + n ≡ n = omega arith in
@@ -206,7 +206,7 @@ get_or-same (z ∷ xs) (suc n) x y inside = get_or-same xs n x y (omega arith)
 
 -- the page at the place of a name
 pub place-named : (helds : List ScriptPage) (name : List ℕ) (n : ℕ) (held : ScriptPage)
-    → IsPlaceOf helds name n → held ≡ get_or helds n held → held.name ≡ name
+    → IsIndexOf helds name n → held ≡ get_or helds n held → held.name ≡ name
 place-named helds name n held place is =
     ap (λ (h : ScriptPage). h.name) (is ∙ get_or-same helds n held place.page place.inside
     ∙ sym place.there) ∙ place.named
@@ -220,7 +220,7 @@ unused-at (h ∷ hs) name zero held inside unused is =
 unused-at (h ∷ hs) name (suc n) held inside unused is =
     unused-at hs name n held (omega arith) unused.1 is
 
-pub place-used : (helds : List ScriptPage) (name : List ℕ) (n : ℕ) → IsPlaceOf helds name n
+pub place-used : (helds : List ScriptPage) (name : List ℕ) (n : ℕ) → IsIndexOf helds name n
     → IsUnused helds name → ⊥
 place-used helds name n place unused = unused-at helds name n place.page place.inside unused
     place.there place.named

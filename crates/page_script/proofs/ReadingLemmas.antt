@@ -6,7 +6,7 @@ use Rattle.std.proofs.lemmas.Bool.Decides.{nat_tests}
 use Rattle.std.proofs.lemmas.List.Elements.{All-append, All-cons, All-nil, All-weaker}
 use Rattle.std.proofs.lemmas.List.Sums.{AllPass-from_list_all}
 use Rattle.asp_messages.specs.PlainSpelling.{◌then◌, bytes_word}
-use Rattle.plain_words.specs.Words.{AreBytes, HasNo, IsWord, Reads}
+use Rattle.plain_words.specs.Words.{AreBytes, HasNo, IsWord, ReadsAs}
 use Rattle.plain_words.proofs.ByteStringLemmas.{string_word}
 use Rattle.plain_words.proofs.NumberLemmas.{decimal_word}
 use Rattle.visit_core.specs.declared.act.Ending.{Ending}
@@ -43,7 +43,7 @@ no_step_line text words front none (lines.Step moment name) is =
 -- where no step was read there is no line
 pub no_step_read : (text words : List ℕ) (step : Option (ℕ × List ℕ)) (found : Option Line)
     → text ≡ codes "step " ++ words
-    → Reads (IsStep words) step → is_some found ≡ is_some step
+    → ReadsAs (IsStep words) step → is_some found ≡ is_some step
     → IfNone found ((line : Line) → ¬ IsLine text line)
 no_step_read text words step (Some line) front read same = tt
 no_step_read text words None None front read same = no_step_line text words front read

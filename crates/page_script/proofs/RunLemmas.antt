@@ -12,13 +12,13 @@ use Rattle.lock_laws.proofs.LegalLemmas.{IsLegal-front}
 use Rattle.visit_core.specs.declared.act.Heard.{Heard}
 use Rattle.visit_core.specs.declared.act.Heard.TheVariants.{Reply, Strange}
 use Rattle.visit_core.specs.declared.outcome.Outcome.TheVariants.{GaveUp}
-use Rattle.visit_core.specs.Acts.{Action, send, wait_until, run, over, IsRun}
+use Rattle.visit_core.specs.Acts.{Action, send, wait_until, run, over, IsToRun}
 use Rattle.visit_core.specs.Rule.{Event, heard, ended, lost, act_of, act_after, after_answer, after_end, after_locked, refused, ending_ask, own_cookie, locked_answers, has_ended, EachFollows, IsLawful}
 use Rattle.visit_core.specs.Terms.{Terms, EndingFits}
 use Rattle.page_script.specs.declared.line.Line.{Line}
 use Rattle.page_script.specs.declared.line.Line.TheVariants as lines
 use Rattle.page_script.specs.Lines.{LineFits}
-use Rattle.page_script.specs.World.{Page, Turn, World, history, entry_of, event_of, Acts, with_events, new_page, WorldStep, Leads, IsWorldRun, turns_of, is_heard, IsLawfulWorld, ForcesOldLocks}
+use Rattle.page_script.specs.World.{Page, Turn, World, history, entry_of, event_of, Performs, with_events, new_page, WorldStep, Leads, IsWorldRun, turns_of, is_heard, IsLawfulWorld, ForcesOldLocks}
 use Rattle.page_script.proofs.StepLemmas.{turns_of-own, end-no_run, last-no_run, loss-no_run}
 use Rattle.page_script.proofs.PlaceLemmas.{All-append, All-more, turns_of-none, turns_of-other}
 use Rattle.page_script.proofs.WorldLemmas.{asked-own}
@@ -73,7 +73,7 @@ locked-no_run terms count u cookie age t content first =
 answer-runs : (terms : Terms) (count w : ℕ) (ask : Ask) (answer : Heard) (t : ℕ)
     (content : Option (List ℕ)) (first : Bool)
     → after_answer terms count w ask answer t ≡ run content first
-    → (u : ℕ) → IsRun (after_answer terms count w ask answer u)
+    → (u : ℕ) → IsToRun (after_answer terms count w ask answer u)
 answer-runs terms count w Acquire (Reply (Found body minutes (Some cookie) mark)) t content first e
     u = tt
 answer-runs terms count w Acquire (Reply (Found body minutes None mark)) t content first e u =
@@ -100,13 +100,13 @@ answer-runs terms count w (Remove own) answer t content first e u =
     absurd (refused-no_run answer content first e)
 
 heard-runs : (b : Bool) (answer : Heard) (now : Action) (later : Action) (content : Option (List ℕ))
-    (first : Bool) → (now ≡ run content first → IsRun later)
-    → cond b (after_end answer) now ≡ run content first → IsRun (cond b (after_end answer) later)
+    (first : Bool) → (now ≡ run content first → IsToRun later)
+    → cond b (after_end answer) now ≡ run content first → IsToRun (cond b (after_end answer) later)
 heard-runs true answer now later content first goes e = absurd (end-no_run answer content first e)
 heard-runs false answer now later content first goes e = goes e
 
 runs-always : (terms : Terms) (past : List Event) (t : ℕ) (content : Option (List ℕ)) (first : Bool)
-    → act_after terms past t ≡ run content first → (u : ℕ) → IsRun (act_after terms past u)
+    → act_after terms past t ≡ run content first → (u : ℕ) → IsToRun (act_after terms past u)
 runs-always terms [] t content first e u = absurd cc
 runs-always terms (heard w request answer ∷ past) t content first e u =
     heard-runs (has_ended past) answer _ _ content first
@@ -207,7 +207,7 @@ unchanged-sound number turns page events asked no_event no_turn sound = record {
 acts-sound : (action : Action) (t number : ℕ) (turns : List Turn) (page : Page)
     (events : List Event) (asked : List Turn) (words : List ℕ)
     → act_of page.terms page.past t ≡ action
-    → Acts action t number page.ending turns events asked words → IsSound turns number page
+    → Performs action t number page.ending turns events asked words → IsSound turns number page
     → IsSound (turns ++ asked) number (with_events page events)
 acts-sound (send request) t number turns page events asked words acting acts sound =
     subst (λ ts. IsSound (turns ++ ts) number (with_events page events)) (sym acts.3)

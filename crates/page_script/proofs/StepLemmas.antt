@@ -18,7 +18,7 @@ use Rattle.visit_core.specs.Rule.{Event, heard, ended, lost, act_of, act_after, 
 use Rattle.visit_core.specs.Stages.{HasPast}
 use Rattle.visit_core.specs.Terms.{Terms}
 use Rattle.page_script.specs.declared.script_page.ScriptPage.{ScriptPage}
-use Rattle.page_script.specs.World.{Page, Turn, event_of, Acts, turn_words, run_words, with_events, turns_of, is_heard}
+use Rattle.page_script.specs.World.{Page, Turn, event_of, Performs, turn_words, run_words, with_events, turns_of, is_heard}
 use Rattle.page_script.specs.Standing.{DeskState, DeskStands, turn_at, PageStands, EachSteps}
 
 -- ---- results
@@ -148,14 +148,14 @@ module _ (CanCount : ℕ → Type 0) (t : ℕ) (held : ScriptPage)
     pub quiet : (desk : DeskState) (action : Action) (words : List ℕ) (Prints : List ℕ → Type 0)
         → ((past : List Event) → HasPast held.visit past → action ≡ act_of held.visit.terms past t)
         → ((number : ℕ) (ending : Ending) (turns : List Turn)
-        → Acts action t number ending turns [] [] words) → Prints words
+        → Performs action t number ending turns [] [] words) → Prints words
         → EachSteps CanCount t held held desk desk Prints
     quiet desk action words Prints act acts prints number turns page stands desk_stands = record {
       events = [];
       asked = [];
       words = words;
       acts =
-          subst (λ a. Acts a t number page.ending turns [] [] words)
+          subst (λ a. Performs a t number page.ending turns [] [] words)
           (act page.past stands.past ∙ ap (λ terms. act_of terms page.past t) stands.terms)
           (acts number page.ending turns);
       page_stands =
@@ -188,7 +188,7 @@ module _ (CanCount : ℕ → Type 0) (t : ℕ) (held : ScriptPage)
           asked = turn ∷ [];
           words = turn_words turn;
           acts =
-              subst (λ a. Acts a t number page.ending turns (event_of turn ∷ []) (turn ∷ [])
+              subst (λ a. Performs a t number page.ending turns (event_of turn ∷ []) (turn ∷ [])
               (turn_words turn)) (sym (act page.past stands.past)
               ∙ ap (λ terms. act_of terms page.past t) stands.terms) (
                 turn,
@@ -234,7 +234,7 @@ module _ (CanCount : ℕ → Type 0) (t : ℕ) (held : ScriptPage)
           events = ended page.ending ∷ [];
           asked = [];
           words = run_words content first;
-          acts = subst (λ a. Acts a t number page.ending turns (ended page.ending ∷ []) []
+          acts = subst (λ a. Performs a t number page.ending turns (ended page.ending ∷ []) []
               (run_words content first)) (sym runs) (refl, refl, refl);
           page_stands =
               subst (λ ts. PageStands ts number held' (with_events page (ended page.ending ∷ [])))

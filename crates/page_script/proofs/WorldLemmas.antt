@@ -12,14 +12,14 @@ use Rattle.page_script.specs.declared.line.PageLine.{PageLine}
 use Rattle.page_script.specs.declared.script.Script.{Script}
 use Rattle.page_script.specs.declared.script_page.ScriptPage.{ScriptPage}
 use Rattle.page_script.specs.Places.{IsUnused}
-use Rattle.page_script.specs.World.{Page, Turn, World, Acts, step_line, with_events, turns_of, new_page, most_pages}
-use Rattle.page_script.specs.Standing.{state_of, PageStands, PagesStand, Steps, EachSteps, EachMayStep, Stays, Stands, Takes}
+use Rattle.page_script.specs.World.{Page, Turn, World, Performs, step_line, with_events, turns_of, new_page, most_pages}
+use Rattle.page_script.specs.Standing.{state_of, PageStands, PagesStand, Steps, EachSteps, EachMayStep, Stays, Stands, WorldTakes}
 use Rattle.page_script.proofs.PlaceLemmas.{All-append, All-more, turns_of-none, PagesStand-length, IsFound, found, PagesStand-push, unused-no_name}
 
 -- a step asks only in its own page's name
 pub asked-own : (action : Action) (t number : ℕ) (ending : Ending) (turns : List Turn)
     (events : List Event) (asked : List Turn) (words : List ℕ)
-    → Acts action t number ending turns events asked words
+    → Performs action t number ending turns events asked words
     → AllByRecursion (λ (turn : Turn). turn.page ≡ number) asked
 asked-own (send request) t number ending turns events asked words acts =
     subst (AllByRecursion (λ (turn : Turn). turn.page ≡ number)) (sym acts.3) (acts.1.page, tt)
@@ -42,7 +42,7 @@ module _ {K : Type 0} (CanCount : ℕ → Type 0) (told : K → Option (List ℕ
         → PageStands turns number held (new_page script.limits line))
         → script'.limits ≡ script.limits → state_of told count script'.desk
         ≡ state_of told count script.desk
-        → Takes CanCount told count script' world (lines.Page line) (λ printed. printed ≡ [])
+        → WorldTakes CanCount told count script' world (lines.Page line) (λ printed. printed ≡ [])
     page-taken line held unused room items new limits desk = record {
       world' = record world { pages = world.pages ++ page ∷ [] };
       printed = [];
@@ -88,7 +88,7 @@ module _ {K : Type 0} (CanCount : ℕ → Type 0) (told : K → Option (List ℕ
     pub limits-taken : (limits : Limits) (out : List ℕ) → script'.limits ≡ limits
         → script'.pages.items ≡ script.pages.items
         → state_of told count script'.desk ≡ state_of told count script.desk
-        → Takes CanCount told count script' world (lines.Limits limits)
+        → WorldTakes CanCount told count script' world (lines.Limits limits)
         (λ printed. out ≡ out ++ printed)
     limits-taken limits out is items desk = record {
       world' = record world { limits = limits };
@@ -119,7 +119,7 @@ module _ {K : Type 0} (CanCount : ℕ → Type 0) (told : K → Option (List ℕ
 
         step-taken : (P : List ℕ → Type 0) → Steps CanCount t n world.turns there.page held'
             (state_of told count script'.desk) (λ words. P (step_line t held.name words))
-            → Takes CanCount told count script' world (lines.Step t name) P
+            → WorldTakes CanCount told count script' world (lines.Step t name) P
         step-taken P step = record {
           world' = record world { pages = after; turns = world.turns ++ step.asked };
           printed = step_line t name step.words;
@@ -132,7 +132,7 @@ module _ {K : Type 0} (CanCount : ℕ → Type 0) (told : K → Option (List ℕ
             events = step.events;
             asked = step.asked;
             words = step.words;
-            acts = subst (λ k. Acts (act_of there.page.terms there.page.past t) t k
+            acts = subst (λ k. Performs (act_of there.page.terms there.page.past t) t k
                 there.page.ending world.turns step.events step.asked step.words) (sym there.count)
                 step.acts;
             after = refl;
@@ -176,7 +176,7 @@ module _ {K : Type 0} (CanCount : ℕ → Type 0) (told : K → Option (List ℕ
         pub each-taken : (P : List ℕ → Type 0)
             → EachSteps CanCount t held held' (state_of told count script.desk)
             (state_of told count script'.desk) (λ words. P (step_line t held.name words))
-            → Takes CanCount told count script' world (lines.Step t name) P
+            → WorldTakes CanCount told count script' world (lines.Step t name) P
         each-taken P each = step-taken P (each n world.turns there.page there.stands stands.desk)
 
         -- nothing has changed
@@ -199,7 +199,7 @@ module _ {K : Type 0} (CanCount : ℕ → Type 0) (told : K → Option (List ℕ
         pub may-taken : EachMayStep CanCount t held held' (state_of told count script.desk)
             (state_of told count script'.desk)
             → Stands CanCount told count script' world
-            ⊎ Takes CanCount told count script' world (lines.Step t name) (λ printed. ⊤)
+            ⊎ WorldTakes CanCount told count script' world (lines.Step t name) (λ printed. ⊤)
         may-taken each = elim (each n world.turns there.page there.stands stands.desk) [
           | inl stays ↦ inl (step-stayed stays)
           | inr step ↦ inr (step-taken (λ printed. ⊤) step)

@@ -8,7 +8,7 @@ abbrev pub IsUnused : List ScriptPage → List ℕ → Type 0
 IsUnused pages name = AllByRecursion (λ page. page.name ≢ name) pages
 
 -- The page at the place has the name.
-pub record IsPlaceOf (pages : List ScriptPage) (name : List ℕ) (place : ℕ) : Type 0 where
+pub record IsIndexOf (pages : List ScriptPage) (name : List ℕ) (place : ℕ) : Type 0 where
   pub inside : place < length pages
   pub page : ScriptPage
   pub there : page ≡ slice_index_or pages place page

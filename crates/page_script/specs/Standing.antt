@@ -17,7 +17,7 @@ use Rattle.page_script.specs.declared.line.Line.{Line}
 use Rattle.page_script.specs.declared.script_page.ScriptPage.{ScriptPage}
 use Rattle.page_script.specs.declared.script.Script.{Script}
 use Rattle.page_script.specs.Lines.{IsLine}
-use Rattle.page_script.specs.World.{Page, Turn, World, history, event_of, draws, total_draws, drawn_after, Acts, with_events, WorldStep, turns_of, is_heard}
+use Rattle.page_script.specs.World.{Page, Turn, World, history, event_of, draws, total_draws, drawn_after, Performs, with_events, WorldStep, turns_of, is_heard}
 
 -- ---- the desk
 
@@ -95,7 +95,7 @@ pub record Steps (CanCount : ℕ → Type 0) (t number : ℕ) (turns : List Turn
   pub events : List Event
   pub asked : List Turn
   pub words : List ℕ
-  pub acts : Acts (act_of page.terms page.past t) t number page.ending turns events asked words
+  pub acts : Performs (act_of page.terms page.past t) t number page.ending turns events asked words
   pub page_stands : PageStands (turns ++ asked) number held' (with_events page events)
   pub desk_stands : DeskStands CanCount desk' (turns ++ asked)
   pub prints : Prints words
@@ -144,7 +144,8 @@ pub record Stands {K : Type 0} (CanCount : ℕ → Type 0) (told : K → Option 
 
 -- The world takes the line: the script stands for the world after it, and what is printed for it
 -- meets the condition.
-pub record Takes {K : Type 0} (CanCount : ℕ → Type 0) (told : K → Option (List ℕ → Option Item))
+pub record WorldTakes {K : Type 0} (CanCount : ℕ → Type 0)
+    (told : K → Option (List ℕ → Option Item))
     (count : K → ℕ) (script' : Script K) (world : World) (line : Line) (Prints : List ℕ → Type 0) :
     Type 0 where
   pub world' : World
@@ -154,12 +155,13 @@ pub record Takes {K : Type 0} (CanCount : ℕ → Type 0) (told : K → Option (
   pub prints : Prints printed
 
 -- The text is a line, and the world takes it.
-pub record TakesText {K : Type 0} (CanCount : ℕ → Type 0) (told : K → Option (List ℕ → Option Item))
+pub record WorldTakesText {K : Type 0} (CanCount : ℕ → Type 0)
+    (told : K → Option (List ℕ → Option Item))
     (count : K → ℕ) (script' : Script K) (world : World) (text : List ℕ)
     (Prints : List ℕ → Type 0) : Type 0 where
   pub line : Line
   pub is_line : IsLine text line
-  pub takes : Takes CanCount told count script' world line Prints
+  pub takes : WorldTakes CanCount told count script' world line Prints
 
 -- a fact where a keeper tells its items
 abbrev pub IfTold : Option (List ℕ → Option Item) → Type 0 → Type 0

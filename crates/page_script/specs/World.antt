@@ -21,7 +21,7 @@ use Rattle.visit_core.specs.declared.act.Heard.TheVariants.{Reply}
 use Rattle.visit_core.specs.declared.terms.Limits.{Limits}
 use Rattle.visit_core.specs.Acts.{Action, send, wait_until, run, over}
 use Rattle.visit_core.specs.OutcomeText.{outcome_spelling}
-use Rattle.visit_core.specs.Rule.{Event, heard, ended, lost, act_of, send_ask, ask_of, has_ended, IsLawful, MeetsOldLock}
+use Rattle.visit_core.specs.Rule.{Event, heard, ended, lost, act_of, send_ask, ask_for, has_ended, IsLawful, MeetsOldLock}
 use Rattle.visit_core.specs.Terms.{Terms}
 use Rattle.page_script.specs.declared.line.Line.{Line}
 use Rattle.page_script.specs.declared.line.Line.TheVariants as lines
@@ -116,15 +116,15 @@ run_words (Some content) first = codes "run" then flag_word first then bytes_wor
 -- this:
 -- a request is answered, and the answer is heard at once; a page that runs ends so in the same
 -- step; to wait, and to be over, changes nothing.
-abbrev pub Acts : Action → ℕ → ℕ → Ending → List Turn → List Event → List Turn → List ℕ → Type 0
-Acts (send request) t number ending turns events asked words =
+abbrev pub Performs : Action → ℕ → ℕ → Ending → List Turn → List Event → List Turn → List ℕ → Type 0
+Performs (send request) t number ending turns events asked words =
     (turn : Turn) × IsTurn number t request turns turn × (events ≡ event_of turn ∷ [])
     × (asked ≡ turn ∷ []) × (words ≡ turn_words turn)
-Acts (wait_until moment) t number ending turns events asked words = (events ≡ []) × (asked ≡ [])
+Performs (wait_until moment) t number ending turns events asked words = (events ≡ []) × (asked ≡ [])
     × (words ≡ codes "wait" then decimal moment)
-Acts (run content first) t number ending turns events asked words = (events ≡ ended ending ∷ [])
+Performs (run content first) t number ending turns events asked words = (events ≡ ended ending ∷ [])
     × (asked ≡ []) × (words ≡ run_words content first)
-Acts (over outcome) t number ending turns events asked words =
+Performs (over outcome) t number ending turns events asked words =
     (events ≡ []) × (asked ≡ []) × (words ≡ codes "over" then outcome_spelling outcome)
 
 -- the printed line of a step: its moment, the page's name and the words, with a line feed
@@ -146,7 +146,8 @@ pub record PageSteps (world : World) (t : ℕ) (name : List ℕ) (world' : World
   pub events : List Event
   pub asked : List Turn
   pub words : List ℕ
-  pub acts : Acts (act_of page.terms page.past t) t (length before) page.ending world.turns events
+  pub acts : Performs (act_of page.terms page.past t) t (length before) page.ending world.turns
+      events
       asked words
   pub after : world' ≡ record world {
     pages = before ++ with_events page events ∷ behind;
@@ -177,18 +178,18 @@ most_pages = 64
 
 -- The line may follow: a new page has a name that is not in use, and there is room for it; a step
 -- is that of a page that is there.
-abbrev pub MayFollow : World → Line → Type 0
-MayFollow world (lines.Limits limits) = ⊤
-MayFollow world (lines.Page page) = (HasName world.pages page.name → ⊥)
+abbrev pub MayStandNext : World → Line → Type 0
+MayStandNext world (lines.Limits limits) = ⊤
+MayStandNext world (lines.Page page) = (HasName world.pages page.name → ⊥)
     × (length world.pages < most_pages)
-MayFollow world (lines.Step moment name) = HasName world.pages name
+MayStandNext world (lines.Step moment name) = HasName world.pages name
 
 -- the world after a line, and what is printed for it
 abbrev pub WorldStep : World → Line → World → List ℕ → Type 0
 WorldStep world (lines.Limits limits) world' output = (world' ≡ record world { limits = limits })
     × (output ≡ [])
 WorldStep world (lines.Page page) world' output =
-    MayFollow world (lines.Page page) × (world'
+    MayStandNext world (lines.Page page) × (world'
     ≡ record world { pages = world.pages ++ new_page world.limits page ∷ [] }) × (output ≡ [])
 WorldStep world (lines.Step moment name) world' output = PageSteps world moment name world' output
 
@@ -239,7 +240,7 @@ pub record MetOldLock (turns : List Turn) (number : ℕ) (page : Page) (cookie :
   pub own : turn.page ≡ number
   pub last : turns_of number behind ≡ []
   pub answer : event_of turn ≡ heard met.moment
-      (record { key = page.terms.key; ask = ask_of page.terms.need })
+      (record { key = page.terms.key; ask = ask_for page.terms.need })
       (Reply (Locked cookie met.age))
   pub in_force : IsInForceFor nothing 0 page.terms.key cookie met.age (history before) met.moment
 

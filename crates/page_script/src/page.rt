@@ -1,6 +1,6 @@
 //! A `page` line behind its first word.
 ghost use Rattle.std.specs.Prelude.{◌≡◌, ◌≢◌, ℕ, List, IfOk, IfSome, IfNone, MatchOption};
-ghost use Rattle.plain_words.specs.Words.{Reads};
+ghost use Rattle.plain_words.specs.Words.{ReadsAs};
 ghost use Rattle.visit_core.specs.declared.terms.Need.{Need};
 ghost use Rattle.page_script.specs.Lines.{ending_words};
 ghost use Rattle.page_script.specs.Parts.{IsEnding, IsKey, IsPage, IsPageHead, IsSave};
@@ -41,7 +41,7 @@ fn read_head(text: &[u8]) -> Option<PageHead<'_>>
 }
 
 fn read_key(alloc: Global, word: &[u8]) -> Result<Option<Bytes>, NoMemory>
-    ensures { IfOk result (Reads (IsKey word.now)) }
+    ensures { IfOk result (ReadsAs (IsKey word.now)) }
 {
     let Some(key) = read_byte_string(alloc, word, MOST_KEY)? else {
         return Ok(None);
@@ -54,7 +54,7 @@ fn read_key(alloc: Global, word: &[u8]) -> Result<Option<Bytes>, NoMemory>
 
 // The minutes and the content that a page saves.
 fn read_save(alloc: Global, text: &[u8]) -> Result<Option<(u64, Bytes)>, NoMemory>
-    ensures { IfOk result (Reads (IsSave text.now)) }
+    ensures { IfOk result (ReadsAs (IsSave text.now)) }
 {
     let Some(words) = behind(text, b"save ") else {
         return Ok(None);
@@ -85,7 +85,7 @@ fn read_bare_ending(text: &[u8]) -> Option<Ending>
 }
 
 fn read_ending(alloc: Global, text: &[u8]) -> Result<Option<Ending>, NoMemory>
-    ensures { IfOk result (Reads (IsEnding text.now)) }
+    ensures { IfOk result (ReadsAs (IsEnding text.now)) }
 {
     if let Some(ending) = read_bare_ending(text) {
         return Ok(Some(ending));
@@ -99,7 +99,7 @@ fn read_ending(alloc: Global, text: &[u8]) -> Result<Option<Ending>, NoMemory>
 /// The page that the words of a `page` line behind the first spell; `None` exactly where they spell
 /// none. The only error is want of memory.
 pub fn read_page(alloc: Global, text: &[u8]) -> Result<Option<PageLine>, NoMemory>
-    ensures { IfOk result (Reads (IsPage text.now)) }
+    ensures { IfOk result (ReadsAs (IsPage text.now)) }
 {
     let Some(head) = read_head(text) else {
         return Ok(None);

@@ -1,6 +1,6 @@
 //! The parts that lines have in common.
 ghost use Rattle.std.specs.Prelude.{◌≡◌, ◌≢◌, ◌++◌, ℕ, List, MatchOption};
-ghost use Rattle.plain_words.specs.Words.{Reads};
+ghost use Rattle.plain_words.specs.Words.{ReadsAs};
 ghost use Rattle.page_script.specs.Lines.{need_word};
 ghost use Rattle.page_script.specs.Parts.{IsNumberThen};
 
@@ -29,7 +29,7 @@ pub fn read_number_then(text: &[u8], max: u64) -> Option<(u64, &[u8])>
 
 /// The need that the word names.
 pub fn read_need(word: &[u8]) -> Option<Need>
-    ensures { Reads (λ need. word.now ≡ need_word need) result }
+    ensures { ReadsAs (λ need. word.now ≡ need_word need) result }
 {
     match word {
         b"exclusive" => Some(Need::Exclusive),

@@ -1,6 +1,6 @@
 //! A line, read from its text.
 ghost use Rattle.std.specs.Prelude.{◌≡◌, IfOk, IfSome, IfNone};
-ghost use Rattle.plain_words.specs.Words.{Reads};
+ghost use Rattle.plain_words.specs.Words.{ReadsAs};
 ghost use Rattle.page_script.specs.declared.line.Line.{Line};
 ghost use Rattle.page_script.specs.Lines.{IsLine};
 ghost use Rattle.page_script.specs.Parts.{IsLimits, IsStep};
@@ -15,7 +15,7 @@ use std::alloc::Global;
 use visit_core::{Limits, MOST_EXECUTION_SECS, MOST_POLL_MS, MOST_POLLS, limits_fit};
 
 fn read_limits(text: &[u8]) -> Option<Limits>
-    ensures { Reads (IsLimits text.now) result }
+    ensures { ReadsAs (IsLimits text.now) result }
 {
     let (execution_secs, rest) = read_number_then(text, MOST_EXECUTION_SECS)?;
     let (poll_ms, rest) = read_number_then(rest, MOST_POLL_MS)?;
@@ -33,7 +33,7 @@ fn read_limits(text: &[u8]) -> Option<Limits>
 }
 
 fn read_step(text: &[u8]) -> Option<(u64, Name)>
-    ensures { Reads (IsStep text.now) result }
+    ensures { ReadsAs (IsStep text.now) result }
 {
     let (moment, name) = read_number_then(text, LAST_MOMENT)?;
     let name = Name::read(name)?;

@@ -1,7 +1,7 @@
 //! A script: its pages, and the desk that they share.
 ghost use Rattle.std.specs.Prelude.{◌≡◌, ◌<◌, ◌++◌, ◌∷◌, [], ◌↔◌, length, IsTrue, MatchOption, OnOk, OnErr};
 ghost use Rattle.visit_core.specs.Terms.{LimitsFit};
-ghost use Rattle.page_script.specs.Places.{IsUnused, IsPlaceOf};
+ghost use Rattle.page_script.specs.Places.{IsUnused, IsIndexOf};
 
 use crate::desk::Desk;
 use crate::script_page::ScriptPage;
@@ -39,7 +39,7 @@ pub struct Script<K> {
 
 /// The place of the page of this name.
 fn place_of(pages: &[ScriptPage], name: &Name) -> Option<usize>
-    ensures { MatchOption result (IsUnused pages.now name.now) (IsPlaceOf pages.now name.now) }
+    ensures { MatchOption result (IsUnused pages.now name.now) (IsIndexOf pages.now name.now) }
 {
     for (i, page) in pages.iter().enumerate() {
         if page.name == *name {
@@ -73,8 +73,8 @@ impl<K: Keeper> Script<K> {
     ghost use Rattle.shard_core.specs.Standing.{StandsFor};
     ghost use Rattle.page_script.specs.declared.line.Line.{Line};
     ghost use Rattle.page_script.specs.Lines.{IsLine, LineFits, PageFits};
-    ghost use Rattle.page_script.specs.World.{World, empty_world, history, MayFollow, IsLawfulWorld, ForcesOldLocks};
-    ghost use Rattle.page_script.specs.Standing.{Stands, Takes, TakesText, IfTold, IsOver, keeper_of};
+    ghost use Rattle.page_script.specs.World.{World, empty_world, history, MayStandNext, IsLawfulWorld, ForcesOldLocks};
+    ghost use Rattle.page_script.specs.Standing.{Stands, WorldTakes, WorldTakesText, IfTold, IsOver, keeper_of};
 
     /// A script with no pages over a keeper with no items, whose cookies begin at 1. It takes no
     /// memory.
@@ -99,10 +99,10 @@ impl<K: Keeper> Script<K> {
         requires { PageFits line }
         ensures done { result ≡ LineEnd.Done → (world : World)
             → Stands K.can_count K.told K.count self.old world
-            → Takes K.can_count K.told K.count self.new world (Line.Page line)
+            → WorldTakes K.can_count K.told K.count self.new world (Line.Page line)
             (λ printed. printed ≡ []) }
         ensures not_a_line { result ≡ LineEnd.NotALine → (world : World)
-            → Stands K.can_count K.told K.count self.old world → MayFollow world (Line.Page line)
+            → Stands K.can_count K.told K.count self.old world → MayStandNext world (Line.Page line)
             → ⊥ }
         ensures unchanged { result ≡ LineEnd.NotALine → self.new ≡ self.old }
         ensures no_memory { result ≡ LineEnd.NoMemory → (world : World)
@@ -130,16 +130,17 @@ impl<K: Keeper> Script<K> {
         requires { t ≤ 2 ^ 62 }
         ensures done { result ≡ LineEnd.Done → (world : World)
             → Stands K.can_count K.told K.count self.old world
-            → Takes K.can_count K.told K.count self.new world (Line.Step t name)
+            → WorldTakes K.can_count K.told K.count self.new world (Line.Step t name)
             (λ printed. out.new.items ≡ out.old.items ++ printed) }
         ensures not_a_line { result ≡ LineEnd.NotALine → (world : World)
-            → Stands K.can_count K.told K.count self.old world → MayFollow world (Line.Step t name)
+            → Stands K.can_count K.told K.count self.old world
+            → MayStandNext world (Line.Step t name)
             → ⊥ }
         ensures unchanged { result ≡ LineEnd.NotALine → self.new ≡ self.old }
         ensures no_memory { result ≡ LineEnd.NoMemory → (world : World)
             → Stands K.can_count K.told K.count self.old world
             → Stands K.can_count K.told K.count self.new world
-            ⊎ Takes K.can_count K.told K.count self.new world (Line.Step t name)
+            ⊎ WorldTakes K.can_count K.told K.count self.new world (Line.Step t name)
             (λ printed. ⊤) }
         ensures is_over { result ≡ LineEnd.NoMemory → IsOver self.new }
         ensures goes_on { result ≡ LineEnd.Done → IsOver self.new → IsOver self.old }
@@ -163,15 +164,15 @@ impl<K: Keeper> Script<K> {
         requires { LineFits line }
         ensures done { result ≡ LineEnd.Done → (world : World)
             → Stands K.can_count K.told K.count self.old world
-            → Takes K.can_count K.told K.count self.new world line
+            → WorldTakes K.can_count K.told K.count self.new world line
             (λ printed. out.new.items ≡ out.old.items ++ printed) }
         ensures not_a_line { result ≡ LineEnd.NotALine → (world : World)
-            → Stands K.can_count K.told K.count self.old world → MayFollow world line → ⊥ }
+            → Stands K.can_count K.told K.count self.old world → MayStandNext world line → ⊥ }
         ensures unchanged { result ≡ LineEnd.NotALine → self.new ≡ self.old }
         ensures no_memory { result ≡ LineEnd.NoMemory → (world : World)
             → Stands K.can_count K.told K.count self.old world
             → Stands K.can_count K.told K.count self.new world
-            ⊎ Takes K.can_count K.told K.count self.new world line (λ printed. ⊤) }
+            ⊎ WorldTakes K.can_count K.told K.count self.new world line (λ printed. ⊤) }
         ensures is_over { result ≡ LineEnd.NoMemory → IsOver self.new }
         ensures goes_on { result ≡ LineEnd.Done → IsOver self.new → IsOver self.old }
         ensures same { (result ≡ LineEnd.Done → ⊥) → out.new.items ≡ out.old.items }
@@ -195,21 +196,21 @@ impl<K: Keeper> Script<K> {
         // appended.
         ensures done { result ≡ LineEnd.Done → (world : World)
             → Stands K.can_count K.told K.count self.old world
-            → TakesText K.can_count K.told K.count self.new world text.now
+            → WorldTakesText K.can_count K.told K.count self.new world text.now
             (λ printed. out.new.items ≡ out.old.items ++ printed) }
         ensures goes_on { result ≡ LineEnd.Done → IsOver self.new → ⊥ }
 
         // In no world that the script stands for may such a line follow; nothing changed.
         ensures not_a_line { result ≡ LineEnd.NotALine → (world : World) (line : Line)
             → Stands K.can_count K.told K.count self.old world → IsLine text.now line
-            → MayFollow world line → ⊥ }
+            → MayStandNext world line → ⊥ }
         ensures unchanged { result ≡ LineEnd.NotALine → self.new ≡ self.old }
 
         // For want of memory each world stayed, or took the line without a print.
         ensures no_memory { result ≡ LineEnd.NoMemory → (world : World)
             → Stands K.can_count K.told K.count self.old world
             → Stands K.can_count K.told K.count self.new world
-            ⊎ TakesText K.can_count K.told K.count self.new world text.now (λ printed. ⊤) }
+            ⊎ WorldTakesText K.can_count K.told K.count self.new world text.now (λ printed. ⊤) }
         ensures is_over { result ≡ LineEnd.NoMemory → IsOver self.new }
         ensures stays_over { IsOver self.old → (result ≡ LineEnd.NoMemory) × (self.new ≡ self.old) }
         ensures same { (result ≡ LineEnd.Done → ⊥) → out.new.items ≡ out.old.items }

@@ -13,7 +13,7 @@ use Rattle.std.proofs.lemmas.Str.Parse.{IsNumeralModel, numerals_by_value, tells
 use Rattle.asp_base.specs.Numbers.{is_number, number_of}
 use Rattle.asp_base.proofs.NumberLemmas.{digit_value_is}
 use Rattle.asp_messages.proofs.DecimalLemmas.{number_of-decimal}
-use Rattle.plain_words.specs.Words.{Reads, IsNumber, IsWord}
+use Rattle.plain_words.specs.Words.{ReadsAs, IsNumber, IsWord}
 
 own : IsNumeralModel (AllDigits 10) (digits_value 10)
 own = numerals_by_value (AllDigits 10) tells_digits
@@ -49,7 +49,7 @@ found text max n small plain e =
 -- the number that was read
 pub plain_reads : (text : List ℕ) (max : ℕ) (r : Option ℕ) → max < 2 ^ 64
     → (1 < length text → get_or text 0 0 ≢ 48)
-    → r ≡ number_of text max → Reads (IsNumber text max) r
+    → r ≡ number_of text max → ReadsAs (IsNumber text max) r
 plain_reads text max (Some n) small plain e = found text max n small plain (sym e)
 plain_reads text max None small plain e = λ n is.
     let back = number_of-decimal n max (omega (arith, is.1)) is.1 in

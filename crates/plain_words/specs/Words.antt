@@ -6,9 +6,9 @@ use Rattle.asp_messages.specs.PlainSpelling.{flag_word, bytes_word}
 -- ---- reading
 
 -- the value that is spelled; none exactly where no value is
-abbrev pub Reads : {V : Type 0} → (V → Type 0) → Option V → Type 0
-Reads {V} Spells None = (v : V) → ¬ Spells v
-Reads Spells (Some v) = Spells v
+abbrev pub ReadsAs : {V : Type 0} → (V → Type 0) → Option V → Type 0
+ReadsAs {V} Spells None = (v : V) → ¬ Spells v
+ReadsAs Spells (Some v) = Spells v
 
 -- the text is the number in decimal, without leading zeros, and the number is at most max
 abbrev pub IsNumber : List ℕ → ℕ → ℕ → Type 0

@@ -1,7 +1,7 @@
 //! Byte strings: `x`, and two lower-case hexadecimal digits for each byte.
 ghost use Rattle.std.specs.Prelude.{◌≡◌, IfOk};
 ghost use Rattle.std.specs.List.{list_any};
-ghost use Rattle.plain_words.specs.Words.{Reads, IsByteString};
+ghost use Rattle.plain_words.specs.Words.{ReadsAs, IsByteString};
 ghost use Rattle.plain_words.specs.Digits.{is_upper};
 
 use asp_base::{Bytes, NoMemory};
@@ -18,7 +18,7 @@ fn has_upper(digits: &[u8]) -> bool
 /// string
 /// of at most so many. The only error is want of memory for them.
 pub fn read_byte_string(alloc: Global, text: &[u8], most: usize) -> Result<Option<Bytes>, NoMemory>
-    ensures { IfOk result (Reads (IsByteString text.now most)) }
+    ensures { IfOk result (ReadsAs (IsByteString text.now most)) }
 {
     if text.is_empty() || text[0] != b'x' {
         return Ok(None);

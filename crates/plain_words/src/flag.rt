@@ -1,9 +1,9 @@
 //! Flags.
-ghost use Rattle.plain_words.specs.Words.{Reads, IsFlag};
+ghost use Rattle.plain_words.specs.Words.{ReadsAs, IsFlag};
 
 /// The flag that the text spells, 1 for yes and 0 for no; `None` exactly where it is neither.
 pub fn read_flag(text: &[u8]) -> Option<bool>
-    ensures { Reads (IsFlag text.now) result }
+    ensures { ReadsAs (IsFlag text.now) result }
 {
     match text {
         b"1" => Some(true),

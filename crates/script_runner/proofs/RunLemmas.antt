@@ -10,8 +10,8 @@ use Rattle.shard_core.specs.Standing.{StandsFor}
 use Rattle.page_script.specs.declared.line.Line.{Line}
 use Rattle.page_script.specs.declared.script.Script.{Script}
 use Rattle.page_script.specs.Lines.{IsLine, most_line}
-use Rattle.page_script.specs.World.{World, empty_world, history, MayFollow, IsLawfulWorld, ForcesOldLocks}
-use Rattle.page_script.specs.Standing.{Stands, TakesText, IfTold}
+use Rattle.page_script.specs.World.{World, empty_world, history, MayStandNext, IsLawfulWorld, ForcesOldLocks}
+use Rattle.page_script.specs.Standing.{Stands, WorldTakesText, IfTold}
 use Rattle.script_runner.specs.declared.ending.End.{End}
 use Rattle.script_runner.specs.declared.ending.End.TheVariants as ends
 use Rattle.script_runner.specs.Drive.{script_text, WroteInPart, EndsAs, IsDrive}
@@ -121,14 +121,14 @@ module _ {K : Type 0} (CanCount : ℕ → Type 0) (told : K → Option (List ℕ
       (split : SplitsAt 10 held text held')
     where
       -- no line that may follow
-      pub line-broken : script' ≡ script → ((world : World) (line : Line) → Stands CanCount told count script world → IsLine text line → MayFollow world line → ⊥)
+      pub line-broken : script' ≡ script → ((world : World) (line : Line) → Stands CanCount told count script world → IsLine text line → MayStandNext world line → ⊥)
           → Ended CanCount told count start source' sink' script' ends.Broken
       line-broken same none =
           subst (λ s. Ended CanCount told count start source' sink' s ends.Broken) (sym same)
           (stopped source' sink' held script left ends.Broken run
           (inl (record { text = text; behind = held'; first = split; none = λ line is may. none run.world line run.stands is may }), run.written))
 
-      module _ (Prints : List ℕ → Type 0) (took : TakesText CanCount told count script' run.world text Prints) where
+      module _ (Prints : List ℕ → Type 0) (took : WorldTakesText CanCount told count script' run.world text Prints) where
         line_ended : (end : End) (sink'' : Option (List ℕ))
             → EndsAs end source' start.sink sink'' (run.lines ++ took.line ∷ []) took.takes.world' held' (length run.bytes) start.most (run.output ++ took.takes.printed)
             → Ended CanCount told count start source' sink'' script' end
@@ -184,7 +184,7 @@ module _ {K : Type 0} (CanCount : ℕ → Type 0) (told : K → Option (List ℕ
 
       -- a line was run, and its print was written
       pub line-written : (due : List ℕ) (sink'' : Option (List ℕ))
-          → ((world : World) → Stands CanCount told count script world → TakesText CanCount told count script' world text (λ printed. due ≡ printed))
+          → ((world : World) → Stands CanCount told count script world → WorldTakesText CanCount told count script' world text (λ printed. due ≡ printed))
           → Takes sink' sink'' due → Running CanCount told count start source' sink'' held' script' left
       line-written due sink'' takes wrote =
           let took = takes run.world run.stands in
@@ -195,14 +195,14 @@ module _ {K : Type 0} (CanCount : ℕ → Type 0) (told : K → Option (List ℕ
 
       -- the sink failed at its print
       pub line-write_fault : (due : List ℕ) (sink'' : Option (List ℕ))
-          → ((world : World) → Stands CanCount told count script world → TakesText CanCount told count script' world text (λ printed. due ≡ printed))
+          → ((world : World) → Stands CanCount told count script world → WorldTakesText CanCount told count script' world text (λ printed. due ≡ printed))
           → TakesFront sink' sink'' due → Ended CanCount told count start source' sink'' script' ends.WriteFault
       line-write_fault due sink'' takes wrote =
           let took = takes run.world run.stands in
           let front = front_is due took.takes.printed sink'' took.takes.prints wrote in
           line_ended (λ printed. due ≡ printed) took ends.WriteFault sink'' (front.0, in_part (λ printed. due ≡ printed) took front.0 sink'' front.1 front.2)
 
-      stays_or_takes : Stands CanCount told count script' run.world ⊎ TakesText CanCount told count script' run.world text (λ printed. ⊤)
+      stays_or_takes : Stands CanCount told count script' run.world ⊎ WorldTakesText CanCount told count script' run.world text (λ printed. ⊤)
           → Ended CanCount told count start source' sink' script' ends.NoMemory
       stays_or_takes (inl stays) = record {
         bytes = run.bytes;
@@ -221,7 +221,7 @@ module _ {K : Type 0} (CanCount : ℕ → Type 0) (told : K → Option (List ℕ
       stays_or_takes (inr took) = part-no_memory (λ printed. ⊤) took
 
       -- memory was wanting
-      pub line-no_memory : ((world : World) → Stands CanCount told count script world → Stands CanCount told count script' world ⊎ TakesText CanCount told count script' world text (λ printed. ⊤))
+      pub line-no_memory : ((world : World) → Stands CanCount told count script world → Stands CanCount told count script' world ⊎ WorldTakesText CanCount told count script' world text (λ printed. ⊤))
           → Ended CanCount told count start source' sink' script' ends.NoMemory
       line-no_memory either = stays_or_takes (either run.world run.stands)
 

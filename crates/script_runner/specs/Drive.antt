@@ -8,7 +8,7 @@ use Rattle.session_machine.specs.History.{nothing}
 use Rattle.shard_core.specs.Standing.{StandsFor}
 use Rattle.page_script.specs.declared.line.Line.{Line}
 use Rattle.page_script.specs.Lines.{line_text, IsLine, most_line}
-use Rattle.page_script.specs.World.{World, history, MayFollow, WorldStep, IsWorldRun, IsLawfulWorld, ForcesOldLocks}
+use Rattle.page_script.specs.World.{World, history, MayStandNext, WorldStep, IsWorldRun, IsLawfulWorld, ForcesOldLocks}
 use Rattle.page_script.specs.Standing.{IfTold}
 use Rattle.script_runner.specs.declared.ending.End.{End}
 use Rattle.script_runner.specs.declared.ending.End.TheVariants.{Whole, Broken, ReadFault, WriteFault, NoMemory, Long}
@@ -29,7 +29,7 @@ pub record BeginsWrong (world : World) (rest : List ℕ) : Type 0 where
   pub text : List ℕ
   pub behind : List ℕ
   pub first : SplitsAt 10 rest text behind
-  pub none : (line : Line) → IsLine text line → MayFollow world line → ⊥
+  pub none : (line : Line) → IsLine text line → MayStandNext world line → ⊥
 
 -- the rest is no whole line: it is longer than a line may be, or the input ended inside it
 abbrev pub IsUnfinished : Option (List ℕ × List ℕ) → List ℕ → Type 0

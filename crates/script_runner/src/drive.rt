@@ -5,8 +5,8 @@ ghost use Rattle.asp_base.specs.Outside.{Takes, TakesFront};
 ghost use Rattle.plain_words.specs.Words.{HasNo};
 ghost use Rattle.page_script.specs.declared.line.Line.{Line};
 ghost use Rattle.page_script.specs.Lines.{IsLine};
-ghost use Rattle.page_script.specs.World.{World, MayFollow};
-ghost use Rattle.page_script.specs.Standing.{Stands, TakesText, keeper_of};
+ghost use Rattle.page_script.specs.World.{World, MayStandNext};
+ghost use Rattle.page_script.specs.Standing.{Stands, WorldTakesText, keeper_of};
 ghost use Rattle.script_runner.specs.Running.{Start, Running, Ended};
 
 use crate::End;
@@ -29,13 +29,13 @@ fn run_line<K: Keeper>(drive: &mut Drive<K>, len: usize) -> LineEnd
     requires within { len < length drive.old.held }
     requires empty { drive.old.out.items ≡ [] }
     ensures done { result ≡ LineEnd.Done → (world : World) → Stands K.can_count K.told K.count drive.old.script world
-        → TakesText K.can_count K.told K.count drive.new.script world (take len drive.old.held) (λ printed. drive.new.out.items ≡ printed) }
+        → WorldTakesText K.can_count K.told K.count drive.new.script world (take len drive.old.held) (λ printed. drive.new.out.items ≡ printed) }
     ensures taken { result ≡ LineEnd.Done → drive.new.held ≡ drop (len + 1) drive.old.held }
     ensures not_a_line { result ≡ LineEnd.NotALine → (world : World) (line : Line) → Stands K.can_count K.told K.count drive.old.script world
-        → IsLine (take len drive.old.held) line → MayFollow world line → ⊥ }
+        → IsLine (take len drive.old.held) line → MayStandNext world line → ⊥ }
     ensures unchanged { result ≡ LineEnd.NotALine → drive.new.script ≡ drive.old.script }
     ensures no_memory { result ≡ LineEnd.NoMemory → (world : World) → Stands K.can_count K.told K.count drive.old.script world
-        → Stands K.can_count K.told K.count drive.new.script world ⊎ TakesText K.can_count K.told K.count drive.new.script world (take len drive.old.held) (λ printed. ⊤) }
+        → Stands K.can_count K.told K.count drive.new.script world ⊎ WorldTakesText K.can_count K.told K.count drive.new.script world (take len drive.old.held) (λ printed. ⊤) }
     ensures floor { K.floor (keeper_of drive.new.script) ≡ K.floor (keeper_of drive.old.script) }
 {
     let end = drive

@@ -21,7 +21,7 @@ use Rattle.session_machine.proofs.MachineLemmas.{Step-fixes, EffectFits, effect-
 use Rattle.keeper.specs.Due.{IsFirstDue}
 use Rattle.shard_core.specs.declared.shard.Swept.{Swept}
 use Rattle.shard_core.specs.declared.shard.Swept.TheVariants as swept
-use Rattle.shard_core.specs.Acting.{Acts, TellsActs}
+use Rattle.shard_core.specs.Acting.{TakesStep, TellsStep}
 use Rattle.shard_core.specs.Standing.{StandsFor, TellsAfter, asked_entry}
 use Rattle.shard_core.specs.Sweeping.{TellsRemoved, IfRemoved, IsUnmoved, swept_entry}
 
@@ -58,7 +58,7 @@ module _ (opening : List ℕ → Option Item) (count : ℕ) (list : List Entry)
   where
     module _ (old new : List ℕ → Option Item) (legal : IsLegal opening count list)
         (are : (key : List ℕ) → old key ≡ item_after opening count list key)
-        (acts : Acts old new request t drawn (has_risen before faults) reply)
+        (acts : TakesStep old new request t drawn (has_risen before faults) reply)
       where
         abbrev now : List ℕ → Option Item
         now key = item_after opening count list key
@@ -120,7 +120,7 @@ module _ (opening : List ℕ → Option Item) (count : ℕ) (list : List Entry)
                 (asked_entry caller t request drawn reply faults) key other)
 
     asked-told : (old new : Option (List ℕ → Option Item)) → TellsAfter opening count list old
-        → TellsActs old new request t drawn (has_risen before faults) reply
+        → TellsStep old new request t drawn (has_risen before faults) reply
         → TellsAfter opening count (list ++ asked_entry caller t request drawn reply faults ∷ [])
         new
     asked-told None None told acts = tt
@@ -131,7 +131,7 @@ module _ (opening : List ℕ → Option Item) (count : ℕ) (list : List Entry)
 
     -- a request's entry behind the history
     pub asked-stands : (old new : Option (List ℕ → Option Item)) → TellsAfter opening count list old
-        → TellsActs old new request t drawn (has_risen before faults) reply
+        → TellsStep old new request t drawn (has_risen before faults) reply
         → StandsFor opening count (list ++ asked_entry caller t request drawn reply faults ∷ []) new
         faults
     asked-stands old new told acts = record {

@@ -12,18 +12,20 @@ use Rattle.session_machine.specs.declared.item.Item.{Item}
 use Rattle.session_machine.specs.Machine.{Step}
 
 -- The session machine takes a step on the request's key, and every other key keeps its item.
-pub record Acts (old new : List ℕ → Option Item) (request : Request) (t drawn : ℕ) (rose : Bool)
+pub record TakesStep (old new : List ℕ → Option Item) (request : Request) (t drawn : ℕ)
+    (rose : Bool)
     (reply : Reply) : Type 0 where
   pub step : Step (old request.key) t drawn request.ask rose reply (new request.key)
   pub others : (other : List ℕ) → bytes_eq other request.key ≡ false → new other ≡ old other
 
 -- where a keeper tells, its items take that step
-abbrev pub TellsActs : Option (List ℕ → Option Item) → Option (List ℕ → Option Item) → Request → ℕ
+abbrev pub TellsStep : Option (List ℕ → Option Item) → Option (List ℕ → Option Item) → Request → ℕ
     → ℕ → Bool → Reply → Type 0
-TellsActs None None request t drawn rose reply = ⊤
-TellsActs None (Some new) request t drawn rose reply = ⊥
-TellsActs (Some old) None request t drawn rose reply = ⊥
-TellsActs (Some old) (Some new) request t drawn rose reply = Acts old new request t drawn rose reply
+TellsStep None None request t drawn rose reply = ⊤
+TellsStep None (Some new) request t drawn rose reply = ⊥
+TellsStep (Some old) None request t drawn rose reply = ⊥
+TellsStep (Some old) (Some new) request t drawn rose reply =
+    TakesStep old new request t drawn rose reply
 
 -- the request is an acquire for which no cookie was left
 abbrev pub IsOutOfCookies : Ask → ℕ → Type 0

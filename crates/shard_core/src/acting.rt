@@ -7,7 +7,7 @@ ghost use Rattle.session_machine.specs.Liveness.{ItemFits};
 ghost use Rattle.session_machine.specs.Verdicts.{reply_of, body_asked, body_there, changed};
 ghost use Rattle.keeper.specs.Causes.{HasKeepCause};
 ghost use Rattle.keeper.specs.Items.{TellsItem, TellsSets};
-ghost use Rattle.shard_core.specs.Acting.{TellsActs, IsOutOfCookies, refusal_of};
+ghost use Rattle.shard_core.specs.Acting.{TellsStep, IsOutOfCookies, refusal_of};
 
 use asp_base::{Bytes, NoMemory};
 use asp_messages::{Ask, Reply, Request, named};
@@ -139,7 +139,7 @@ pub fn act_on<K: Keeper>(
     requires moment { t ≤ 2 ^ 62 }
     requires request { RequestFits request }
     requires drawn { DrawFits request.ask drawn }
-    ensures acts { TellsActs (K.told keeper.old) (K.told keeper.new) request t drawn
+    ensures acts { TellsStep (K.told keeper.old) (K.told keeper.new) request t drawn
         (has_risen (K.count keeper.old) (K.count keeper.new)) result }
     ensures fits { ReplyFits result }
     ensures place { HasPlace result }

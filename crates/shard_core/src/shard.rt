@@ -6,7 +6,7 @@ ghost use Rattle.session_machine.specs.declared.item.Item.{Item};
 ghost use Rattle.session_machine.specs.declared.entry.Entry.{Entry};
 ghost use Rattle.session_machine.specs.History.{DrawFits, HasPlace, IsFreshDraw, has_risen};
 ghost use Rattle.keeper.specs.Due.{TellsDue};
-ghost use Rattle.shard_core.specs.Acting.{TellsActs, IsOutOfCookies};
+ghost use Rattle.shard_core.specs.Acting.{TellsStep, IsOutOfCookies};
 ghost use Rattle.shard_core.specs.Standing.{StandsFor, asked_entry};
 ghost use Rattle.shard_core.specs.Sweeping.{TellsRemoved, IfRemoved, IsUnmoved, swept_entry};
 
@@ -67,7 +67,7 @@ impl<K: Keeper> Shard<K> {
 
         // The session machine takes one step; the reply is in range and has a place, over every
         // keeper.
-        ensures acts { TellsActs (K.told self.old) (K.told self.new) request t drawn
+        ensures acts { TellsStep (K.told self.old) (K.told self.new) request t drawn
             (has_risen (K.count self.old) (K.count self.new)) result }
         ensures fits { ReplyFits result }
         ensures place { HasPlace result }

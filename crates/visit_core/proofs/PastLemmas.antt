@@ -17,12 +17,12 @@ use Rattle.visit_core.specs.declared.stage.Stage.{Stage}
 use Rattle.visit_core.specs.declared.stage.Stage.TheVariants.{Asking, Forcing, Running, Ending, Over}
 use Rattle.visit_core.specs.Acts.{send, run, over}
 use Rattle.visit_core.specs.Terms.{Terms, HeardFits}
-use Rattle.visit_core.specs.Rule.{Event, send_ask, after_locked, heard, act_of, act_after, ask_of, EachFollows, locked_answers, has_ended, own_cookie}
-use Rattle.visit_core.specs.Stages.{Progress, HasPast, Knows, stage_act}
+use Rattle.visit_core.specs.Rule.{Event, send_ask, after_locked, heard, act_of, act_after, ask_for, EachFollows, locked_answers, has_ended, own_cookie}
+use Rattle.visit_core.specs.Stages.{VisitState, HasPast, Knows, stage_act}
 use Rattle.visit_core.specs.Tables.{meets_lock, meets_lock_if, end_answered, hears, hears_answer, hears_release}
 
 -- one more event, behind the others
-HasPast-push : (visit : Progress) (terms : Terms) (past : List Event) (event : Event)
+HasPast-push : (visit : VisitState) (terms : Terms) (past : List Event) (event : Event)
     → visit.terms ≡ terms → EachFollows terms (event ∷ reverse past)
     → ((t : ℕ) → act_after terms (event ∷ reverse past) t
     ≡ stage_act visit.terms visit.ask visit.stage t)
@@ -37,25 +37,26 @@ HasPast-push visit terms past event is lawful acts knows =
     }
 
 -- what the visit does after a lock was met
-locked-acts : (visit : Progress) (t : ℕ) (lock : Lock) (u : ℕ) → visit.ask ≡ ask_of visit.terms.need
+locked-acts : (visit : VisitState) (t : ℕ) (lock : Lock) (u : ℕ)
+    → visit.ask ≡ ask_for visit.terms.need
     → after_locked visit.terms (visit.locked + 1) t lock.cookie lock.age u
     ≡ stage_act (meets_lock visit t lock).terms (meets_lock visit t lock).ask
     (meets_lock visit t lock).stage u
 locked-acts visit t lock u e = grind (arith, common_steps)
 
-locked-knows : (visit : Progress) (t : ℕ) (lock : Lock) (past : List Event)
-    → visit.ask ≡ ask_of visit.terms.need → locked_answers past ≡ visit.locked + 1
+locked-knows : (visit : VisitState) (t : ℕ) (lock : Lock) (past : List Event)
+    → visit.ask ≡ ask_for visit.terms.need → locked_answers past ≡ visit.locked + 1
     → has_ended past ≡ false → own_cookie past ≡ None
     → Knows (meets_lock visit t lock).terms (meets_lock visit t lock).ask
     (meets_lock visit t lock).locked (meets_lock visit t lock).stage past
 locked-knows visit t lock past e n not_ended none =
     elim (nat_le visit.terms.limits.polls (visit.locked + 1)) as
-    (λ b. let v : Progress = meets_lock_if b (nat_lt visit.terms.limits.execution_secs lock.age)
+    (λ b. let v : VisitState = meets_lock_if b (nat_lt visit.terms.limits.execution_secs lock.age)
     visit t lock in Knows v.terms v.ask v.locked v.stage past) [
       | true ↦ tt
       | false ↦
           elim (nat_lt visit.terms.limits.execution_secs lock.age) as
-          (λ b. let v : Progress = meets_lock_if false b visit t lock in
+          (λ b. let v : VisitState = meets_lock_if false b visit t lock in
           Knows v.terms v.ask v.locked v.stage past)
           [ true ↦ ((lock.cookie, refl), n, not_ended, none) | false ↦ (e, n, not_ended, none) ]
     ]
@@ -64,14 +65,14 @@ locked-knows visit t lock past e n not_ended none =
 asked-acts : (key : List ℕ) (need : Need) (limits : Limits) (locked from t : ℕ) (answer : Heard)
     (past : List Event) → has_ended past ≡ false → locked_answers past ≡ locked → (u : ℕ) →
     (let terms : Terms = record { key = key; need = need; limits = limits } in
-    let visit : Progress = hears (record {
+    let visit : VisitState = hears (record {
       terms = terms;
-      ask = ask_of need;
+      ask = ask_for need;
       locked =
           locked;
       stage = Asking from;
     }) t (Asking from) answer in
-    act_after terms (heard t (record { key = key; ask = ask_of need }) answer ∷ past) u
+    act_after terms (heard t (record { key = key; ask = ask_for need }) answer ∷ past) u
     ≡ stage_act visit.terms visit.ask visit.stage u)
 asked-acts key Exclusive limits locked from t (Reply (Found body minutes None first)) past e n u =
     rw e refl
@@ -92,15 +93,15 @@ asked-knows : (key : List ℕ) (need : Need) (limits : Limits) (locked from t : 
     (past : List Event) → has_ended past ≡ false → locked_answers past ≡ locked
     → own_cookie past ≡ None →
     (let terms : Terms = record { key = key; need = need; limits = limits } in
-    let visit : Progress = hears (record {
+    let visit : VisitState = hears (record {
       terms = terms;
-      ask = ask_of need;
+      ask = ask_for need;
       locked =
           locked;
       stage = Asking from;
     }) t (Asking from) answer in
     Knows visit.terms visit.ask visit.locked visit.stage
-    (heard t (record { key = key; ask = ask_of need }) answer ∷ past))
+    (heard t (record { key = key; ask = ask_for need }) answer ∷ past))
 asked-knows key Exclusive limits locked from t (Reply (Found body minutes None first)) past e n
     none = tt
 asked-knows key Exclusive limits locked from t (Reply (Found body minutes (Some cookie) first)) past
@@ -127,7 +128,7 @@ asking-now terms ask t = grind (arith, common_steps)
 forced-acts : (terms : Terms) (locked cookie t : ℕ) (answer : Heard) (past : List Event)
     → has_ended past ≡ false → (u : ℕ) →
     (let ask : Ask = Release cookie in
-    let visit : Progress = hears_release (record {
+    let visit : VisitState = hears_release (record {
       terms = terms;
       ask = ask;
       locked =
@@ -145,7 +146,7 @@ forced-acts terms locked cookie t answer past e u = rw e refl
 forced-knows : (terms : Terms) (locked cookie t : ℕ) (answer : Heard) (past : List Event)
     → locked_answers past ≡ locked → has_ended past ≡ false → own_cookie past ≡ None →
     (let ask : Ask = Release cookie in
-    let visit : Progress = hears_release (record {
+    let visit : VisitState = hears_release (record {
       terms = terms;
       ask = ask;
       locked =
@@ -177,16 +178,16 @@ end-knows terms ask locked (Reply (Locked other age)) past = tt
 end-knows terms ask locked answer past = tt
 
 -- a visit keeps its terms
-locked-terms : (visit : Progress) (t : ℕ) (lock : Lock)
+locked-terms : (visit : VisitState) (t : ℕ) (lock : Lock)
     → (meets_lock visit t lock).terms ≡ visit.terms
 locked-terms visit t lock = grind (arith, common_steps)
 
-asked-terms : (visit : Progress) (t : ℕ) (answer : Heard) (lock : Option Lock)
+asked-terms : (visit : VisitState) (t : ℕ) (answer : Heard) (lock : Option Lock)
     → (hears_answer visit t answer lock).terms ≡ visit.terms
 asked-terms visit t answer None = refl
 asked-terms visit t answer (Some lock) = locked-terms visit t lock
 
-forced-terms : (visit : Progress) (answer : Heard)
+forced-terms : (visit : VisitState) (answer : Heard)
     → (hears_release visit answer).terms ≡ visit.terms
 forced-terms visit (Reply done_reply) = refl
 forced-terms visit (Reply Missing) = refl
@@ -205,14 +206,14 @@ send-inj a b e = cc
 -- an answer to the request that the visit sends
 pub HasPast-heard : (terms : Terms) (ask : Ask) (locked : ℕ) (stage : Stage) (t : ℕ)
     (answer : Heard) (past : List Event) (request : Request) → HeardFits answer →
-    (let visit : Progress = record { terms = terms; ask = ask; locked = locked; stage = stage } in
+    (let visit : VisitState = record { terms = terms; ask = ask; locked = locked; stage = stage } in
     HasPast visit past → act_of terms past t ≡ send request
     → HasPast (hears visit t stage answer) (past ++ heard t request answer ∷ []))
 HasPast-heard terms ask locked (Asking from) t answer past request fits h sent =
     let k : Knows terms ask locked (Asking from) (reverse past) = h.knows in
     let is_request : request ≡ record { key = terms.key; ask = ask } =
     asking-sends terms ask from t request (sym (h.acts t) ∙ sent) in
-    let same : request ≡ record { key = terms.key; ask = ask_of terms.need } =
+    let same : request ≡ record { key = terms.key; ask = ask_for terms.need } =
     rw k.0 at is_request in
     rw (same, k.0) (HasPast-push _ terms past _ (asked-terms _ t answer _)
     ((rw same at sent, fits), h.lawful) (asked-acts terms.key terms.need terms.limits locked

@@ -15,7 +15,7 @@ use Rattle.visit_core.specs.declared.act.Heard.TheVariants.{Reply, Strange}
 use Rattle.visit_core.specs.declared.outcome.Outcome.TheVariants.{GaveUp}
 use Rattle.visit_core.specs.Acts.{Action, send, wait_until, run, over}
 use Rattle.visit_core.specs.Terms.{Terms}
-use Rattle.visit_core.specs.Rule.{Event, heard, ended, lost, send_ask, act_of, act_after, after_answer, after_locked, after_loss, refused, ask_of, EachFollows, IsLawful, is_locked_ask, locked_answers, has_ended, MeetsOldLock}
+use Rattle.visit_core.specs.Rule.{Event, heard, ended, lost, send_ask, act_of, act_after, after_answer, after_locked, after_loss, refused, ask_for, EachFollows, IsLawful, is_locked_ask, locked_answers, has_ended, MeetsOldLock}
 
 -- ---- counts in a past, in either order
 
@@ -70,7 +70,7 @@ locked_answers-reverse (event ∷ past) =
 
 -- ---- what is sent
 
-need-no_release : (need : Need) (cookie : ℕ) → ask_of need ≢ Release cookie
+need-no_release : (need : Need) (cookie : ℕ) → ask_for need ≢ Release cookie
 need-no_release Exclusive cookie = λ e. cc
 need-no_release ReadOnly cookie = λ e. cc
 need-no_release Off cookie = λ e. cc
@@ -89,14 +89,14 @@ send-inj : (a b : Request) → send a ≡ send b → b ≡ a
 send-inj a b e = cc
 
 asks-no_release : (terms : Terms) (cookie : ℕ)
-    → send_ask terms (ask_of terms.need) ≢ send_ask terms (Release cookie)
+    → send_ask terms (ask_for terms.need) ≢ send_ask terms (Release cookie)
 asks-no_release terms cookie e = need-no_release terms.need cookie
     (ap (λ (r : Request). r.ask) (sym (send-inj _ _ e)))
 
 -- a request before the page's end asks for the session or releases a lock
 abbrev Asked : Terms → Request → Type 0
 Asked terms request =
-    (request ≡ record { key = terms.key; ask = ask_of terms.need })
+    (request ≡ record { key = terms.key; ask = ask_for terms.need })
     ⊎ ((cookie : ℕ) × (request.ask ≡ Release cookie))
 
 -- what follows a lock that was met, by the three tests
@@ -106,7 +106,7 @@ branch terms used_up old early cookie age moment =
     then over (GaveUp cookie age)
     else (if old
     then send_ask terms (Release cookie)
-    else (if early then wait_until moment else send_ask terms (ask_of terms.need)))
+    else (if early then wait_until moment else send_ask terms (ask_for terms.need)))
 
 branch-asks : (terms : Terms) (used_up old early : Bool) (cookie age moment : ℕ) (request : Request)
     → branch terms used_up old early cookie age moment ≡ send request → Asked terms request
@@ -166,7 +166,7 @@ pub record Met (terms : Terms) (past : List Event) (cookie : ℕ) : Type 0 where
   pub earlier : List Event
   pub moment : ℕ
   pub age : ℕ
-  pub last : past ≡ heard moment (record { key = terms.key; ask = ask_of terms.need })
+  pub last : past ≡ heard moment (record { key = terms.key; ask = ask_for terms.need })
       (Reply (Locked cookie age)) ∷ earlier
   pub old : terms.limits.execution_secs < age
   pub polls_left : locked_answers past < terms.limits.polls
@@ -174,10 +174,10 @@ pub record Met (terms : Terms) (past : List Event) (cookie : ℕ) : Type 0 where
 -- an own ask that met a lock asked for the session
 own-ask : (terms : Terms) (request : Request) → Asked terms request → (age cookie : ℕ)
     → is_locked_ask request.ask (Reply (Locked cookie age)) ≡ true
-    → (request ≡ record { key = terms.key; ask = ask_of terms.need }) × (terms.need ≢ Off)
+    → (request ≡ record { key = terms.key; ask = ask_for terms.need }) × (terms.need ≢ Off)
 own-ask terms request (inl is) age cookie locked = (
   is,
-  λ e. let asks : request.ask ≡ Reset = ap (λ (r : Request). r.ask) is ∙ ap ask_of e in
+  λ e. let asks : request.ask ≡ Reset = ap (λ (r : Request). r.ask) is ∙ ap ask_for e in
       let never : false ≡ true = rw asks at locked in cc,
 )
 own-ask terms request (inr (other, is)) age cookie locked = let never : false ≡ true =
@@ -201,7 +201,8 @@ locked-met : (terms : Terms) (past : List Event) (u t : ℕ) (request : Request)
     → after_locked terms (locked_answers past + 1) u found age t ≡ send_ask terms (Release cookie)
     → Met terms (heard u request (Reply (Locked found age)) ∷ past) cookie
 locked-met terms past u t request found age cookie asked locked e =
-    let own : (request ≡ record { key = terms.key; ask = ask_of terms.need }) × (terms.need ≢ Off) =
+    let own : (request ≡ record { key = terms.key; ask = ask_for terms.need })
+    × (terms.need ≢ Off) =
     own-ask terms request asked age found locked in
     let tests : (nat_le terms.limits.polls (locked_answers past + 1) ≡ false)
     × (nat_lt terms.limits.execution_secs age ≡ true) × (found ≡ cookie) =
@@ -266,7 +267,7 @@ met-acts : (key : List ℕ) (need : Need) (limits : Limits) (earlier : List Even
     (moment age t cookie : ℕ) → need ≢ Off → has_ended earlier ≡ false → limits.execution_secs < age
     →
     (let terms : Terms = record { key = key; need = need; limits = limits } in
-    let past : List Event = heard moment (record { key = key; ask = ask_of need })
+    let past : List Event = heard moment (record { key = key; ask = ask_for need })
     (Reply (Locked cookie age)) ∷ earlier in
     locked_answers past < limits.polls → act_after terms past t ≡ send_ask terms (Release cookie))
 met-acts key Exclusive limits earlier moment age t cookie content not_ended old left =

@@ -10,7 +10,7 @@ use Rattle.visit_core.specs.declared.act.Heard.TheVariants.{Reply, Strange}
 use Rattle.visit_core.specs.declared.stage.Lock.{Lock}
 use Rattle.visit_core.specs.declared.stage.Stage.{Stage}
 use Rattle.visit_core.specs.declared.stage.Stage.TheVariants.{Asking, Forcing, Running, Ending, Over}
-use Rattle.visit_core.specs.Stages.{Progress, StageFits, StageSends, stage_steps, steps_left}
+use Rattle.visit_core.specs.Stages.{VisitState, StageFits, StageSends, stage_steps, steps_left}
 use Rattle.visit_core.specs.Tables.{meets_lock_if, answered, acquired, refused, end_answered, hears, hears_answer, hears_release, lock_met}
 
 flag-le : (flag : Bool) → (if flag then 1 else 0) ≤ 1
@@ -52,7 +52,7 @@ end_answered-steps k (Reply Missing) u = omega arith
 end_answered-steps k (Reply (Locked cookie age)) u = omega arith
 end_answered-steps k answer u = omega arith
 
-locked-steps : (visit : Progress) (t u : ℕ) (lock : Lock) (used_up old : Bool)
+locked-steps : (visit : VisitState) (t u : ℕ) (lock : Lock) (used_up old : Bool)
     → visit.locked < visit.terms.limits.polls
     → steps_left (meets_lock_if used_up old visit t lock) u
     < 3 * (visit.terms.limits.polls - visit.locked) + 2
@@ -61,7 +61,7 @@ locked-steps visit t u lock false true h = omega arith
 locked-steps visit t u lock false false h = omega
     (arith, flag-le (nat_lt u (t + visit.terms.limits.poll_ms)))
 
-asked-steps : (visit : Progress) (t u : ℕ) (answer : Heard) (lock : Option Lock)
+asked-steps : (visit : VisitState) (t u : ℕ) (answer : Heard) (lock : Option Lock)
     → visit.locked < visit.terms.limits.polls
     → steps_left (hears_answer visit t answer lock) u
     < 3 * (visit.terms.limits.polls - visit.locked) + 2
@@ -72,14 +72,14 @@ asked-steps visit t u answer None h = omega (
 )
 asked-steps visit t u answer (Some lock) h = locked-steps visit t u lock _ _ h
 
-forced-steps : (visit : Progress) (u : ℕ) (answer : Heard)
+forced-steps : (visit : VisitState) (u : ℕ) (answer : Heard)
     → steps_left (hears_release visit answer) u < 3 * (visit.terms.limits.polls - visit.locked) + 3
 forced-steps visit u (Reply done_reply) = omega (arith, no_wait u)
 forced-steps visit u (Reply Missing) = omega (arith, no_wait u)
 forced-steps visit u (Reply (Locked cookie age)) = omega (arith, no_wait u)
 forced-steps visit u answer = omega arith
 
-pub hears-steps : (visit : Progress) (t u : ℕ) (stage : Stage) (answer : Heard)
+pub hears-steps : (visit : VisitState) (t u : ℕ) (stage : Stage) (answer : Heard)
     → StageFits visit.locked visit.terms.limits.polls stage → StageSends stage t
     → steps_left (hears visit t stage answer) u
     < stage_steps (visit.terms.limits.polls - visit.locked) stage t

@@ -36,8 +36,8 @@ IsSend (run content first) = ⊥
 IsSend (over outcome) = ⊥
 
 -- the page is to run
-abbrev pub IsRun : Action → Type 0
-IsRun (send request) = ⊥
-IsRun (wait_until moment) = ⊥
-IsRun (run content first) = ⊤
-IsRun (over outcome) = ⊥
+abbrev pub IsToRun : Action → Type 0
+IsToRun (send request) = ⊥
+IsToRun (wait_until moment) = ⊥
+IsToRun (run content first) = ⊤
+IsToRun (over outcome) = ⊥

@@ -17,7 +17,7 @@ use Rattle.visit_core.specs.declared.act.Ending.TheVariants.{Save, Keep, Abandon
 use Rattle.visit_core.specs.declared.act.Heard.{Heard}
 use Rattle.visit_core.specs.declared.act.Heard.TheVariants.{Reply, Strange}
 use Rattle.visit_core.specs.declared.outcome.Outcome.TheVariants.{Done, LostLocked, LostMissing, GaveUp, LinkFault, Refused}
-use Rattle.visit_core.specs.Acts.{Action, send, wait_until, run, over, IsRun}
+use Rattle.visit_core.specs.Acts.{Action, send, wait_until, run, over, IsToRun}
 use Rattle.visit_core.specs.Terms.{Terms, EndingFits, HeardFits}
 
 -- an event in a visit's past: a request was answered at a moment, the page ended, or the link was
@@ -75,10 +75,10 @@ abbrev pub send_ask : Terms → Ask → Action
 send_ask terms ask = send (record { key = terms.key; ask = ask })
 
 -- the session is asked for: under its lock, without it, or only that it live on
-abbrev pub ask_of : Need → Ask
-ask_of Exclusive = Acquire
-ask_of ReadOnly = Read
-ask_of Off = Reset
+abbrev pub ask_for : Need → Ask
+ask_for Exclusive = Acquire
+ask_for ReadOnly = Read
+ask_for Off = Reset
 
 -- an answer that does not belong to its request ends the visit
 abbrev pub refused : Heard → Action
@@ -97,7 +97,7 @@ after_locked terms count u cookie age t =
     then send_ask terms (Release cookie)
     else (if nat_lt t (u + terms.limits.poll_ms)
     then wait_until (u + terms.limits.poll_ms)
-    else send_ask terms (ask_of terms.need)))
+    else send_ask terms (ask_for terms.need)))
 
 -- an answer before the page's end
 abbrev pub after_answer : Terms → ℕ → ℕ → Ask → Heard → ℕ → Action
@@ -112,10 +112,10 @@ after_answer terms count u Read (Reply (Locked cookie age)) t =
     after_locked terms count u cookie age t
 after_answer terms count u Reset (Reply done_reply) t = over Done
 after_answer terms count u Reset (Reply Missing) t = over Done
-after_answer terms count u (Release own) (Reply done_reply) t = send_ask terms (ask_of terms.need)
-after_answer terms count u (Release own) (Reply Missing) t = send_ask terms (ask_of terms.need)
+after_answer terms count u (Release own) (Reply done_reply) t = send_ask terms (ask_for terms.need)
+after_answer terms count u (Release own) (Reply Missing) t = send_ask terms (ask_for terms.need)
 after_answer terms count u (Release own) (Reply (Locked cookie age)) t =
-    send_ask terms (ask_of terms.need)
+    send_ask terms (ask_for terms.need)
 after_answer terms count u ask answer t = refused answer
 
 -- what is asked at the page's end: only a page that may write asks, under its own cookie if it has
@@ -145,7 +145,7 @@ after_loss action = over LinkFault
 
 -- what the visit does at t, by its past with the latest event first
 abbrev pub act_after : Terms → List Event → ℕ → Action
-act_after terms [] t = send_ask terms (ask_of terms.need)
+act_after terms [] t = send_ask terms (ask_for terms.need)
 act_after terms (heard u request answer ∷ past) t =
     if has_ended past
     then after_end answer
@@ -162,15 +162,16 @@ act_of terms past t = act_after terms (reverse past) t
 
 -- The event may follow where the visit acts so: an answer is to the request that is sent at its
 -- moment, and a page ends that runs.
-abbrev pub MayFollow : (ℕ → Action) → Event → Type 0
-MayFollow act (heard t request answer) = (act t ≡ send request) × HeardFits answer
-MayFollow act (ended ending) = ((t : ℕ) → IsRun (act t)) × EndingFits ending
-MayFollow act lost = ⊤
+abbrev pub MayHappenNext : (ℕ → Action) → Event → Type 0
+MayHappenNext act (heard t request answer) = (act t ≡ send request) × HeardFits answer
+MayHappenNext act (ended ending) = ((t : ℕ) → IsToRun (act t)) × EndingFits ending
+MayHappenNext act lost = ⊤
 
 -- each event of the past, the latest first, may follow those before it
 abbrev pub EachFollows : Terms → List Event → Type 0
 EachFollows terms [] = ⊤
-EachFollows terms (event ∷ past) = MayFollow (act_after terms past) event × EachFollows terms past
+EachFollows terms (event ∷ past) = MayHappenNext (act_after terms past) event
+    × EachFollows terms past
 
 -- each event of the past follows from those before it
 abbrev pub IsLawful : Terms → List Event → Type 0
@@ -186,7 +187,7 @@ pub record MeetsOldLock (terms : Terms) (past : List Event) (cookie : ℕ) : Typ
   pub earlier : List Event
   pub moment : ℕ
   pub age : ℕ
-  pub last : past ≡ earlier ++ heard moment (record { key = terms.key; ask = ask_of terms.need })
+  pub last : past ≡ earlier ++ heard moment (record { key = terms.key; ask = ask_for terms.need })
       (Reply (Locked cookie age)) ∷ []
   pub old : terms.limits.execution_secs < age
   pub polls_left : locked_answers past < terms.limits.polls

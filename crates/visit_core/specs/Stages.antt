@@ -11,11 +11,11 @@ use Rattle.visit_core.specs.declared.stage.Stage.{Stage}
 use Rattle.visit_core.specs.declared.stage.Stage.TheVariants.{Asking, Forcing, Running, Ending, Over}
 use Rattle.visit_core.specs.Acts.{Action, wait_until, run, over}
 use Rattle.visit_core.specs.Terms.{Terms, LimitsFit}
-use Rattle.visit_core.specs.Rule.{Event, send_ask, ask_of, act_of, locked_answers, has_ended, own_cookie, IsLawful}
+use Rattle.visit_core.specs.Rule.{Event, send_ask, ask_for, act_of, locked_answers, has_ended, own_cookie, IsLawful}
 
 -- A visit: its terms, what it asks where its stage asks, how many asks for the session met a lock,
 -- and its stage.
-pub record Progress : Type 0 where
+pub record VisitState : Type 0 where
   pub terms : Terms
   pub ask : Ask
   pub locked : ℕ
@@ -50,7 +50,7 @@ pub record IsSound (request : Request) (limits : Limits) (locked : ℕ) (stage :
 -- what a stage knows of the past, which has its latest event first
 abbrev pub Knows : Terms → Ask → ℕ → Stage → List Event → Type 0
 Knows terms ask locked (Asking from) past =
-    (ask ≡ ask_of terms.need) × (locked_answers past ≡ locked) × (has_ended past ≡ false)
+    (ask ≡ ask_for terms.need) × (locked_answers past ≡ locked) × (has_ended past ≡ false)
     × (own_cookie past ≡ None)
 Knows terms ask locked Forcing past =
     ((cookie : ℕ) × (ask ≡ Release cookie)) × (locked_answers past ≡ locked)
@@ -60,7 +60,7 @@ Knows terms ask locked Ending past = has_ended past ≡ true
 Knows terms ask locked (Over outcome) past = ⊤
 
 -- The calls of this past lead to this visit: the past is lawful, and the visit acts by its rule.
-pub record HasPast (visit : Progress) (past : List Event) : Type 0 where
+pub record HasPast (visit : VisitState) (past : List Event) : Type 0 where
   pub lawful : IsLawful visit.terms past
   pub acts : (t : ℕ) → act_of visit.terms past t ≡ stage_act visit.terms visit.ask visit.stage t
   pub knows : Knows visit.terms visit.ask visit.locked visit.stage (reverse past)
@@ -76,7 +76,7 @@ StageSends Ending t = ⊤
 StageSends (Over outcome) t = ⊥
 
 -- an answer may be heard at this moment
-abbrev pub Sends : Progress → ℕ → Type 0
+abbrev pub Sends : VisitState → ℕ → Type 0
 Sends visit t = StageSends visit.stage t
 
 -- the page is to run in this stage
@@ -88,7 +88,7 @@ StageRuns Ending = ⊥
 StageRuns (Over outcome) = ⊥
 
 -- the page may end
-abbrev pub Runs : Progress → Type 0
+abbrev pub Runs : VisitState → Type 0
 Runs visit = StageRuns visit.stage
 
 -- ---- how far a visit has to go
@@ -103,5 +103,5 @@ stage_steps polls_left (Over outcome) t = 0
 
 -- at t the visit is over after at most so many steps, each an answer that is heard, a wait that is
 -- over, or the page's end
-abbrev pub steps_left : Progress → ℕ → ℕ
+abbrev pub steps_left : VisitState → ℕ → ℕ
 steps_left visit t = stage_steps (visit.terms.limits.polls - visit.locked) visit.stage t

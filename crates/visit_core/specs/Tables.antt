@@ -10,12 +10,12 @@ use Rattle.visit_core.specs.declared.outcome.Outcome.TheVariants.{Done, LostLock
 use Rattle.visit_core.specs.declared.stage.Lock.{Lock}
 use Rattle.visit_core.specs.declared.stage.Stage.{Stage}
 use Rattle.visit_core.specs.declared.stage.Stage.TheVariants.{Asking, Forcing, Running, Ending, Over}
-use Rattle.visit_core.specs.Rule.{ask_of}
-use Rattle.visit_core.specs.Stages.{Progress}
+use Rattle.visit_core.specs.Rule.{ask_for}
+use Rattle.visit_core.specs.Stages.{VisitState}
 
 -- the session is asked for from this moment on
-abbrev pub asks_from : Progress → ℕ → Progress
-asks_from visit from = record visit { ask = ask_of visit.terms.need; stage = Asking from }
+abbrev pub asks_from : VisitState → ℕ → VisitState
+asks_from visit from = record visit { ask = ask_for visit.terms.need; stage = Asking from }
 
 -- an answer that does not belong to its request ends the visit
 abbrev pub refused : Heard → Stage
@@ -34,7 +34,7 @@ lock_met ask answer = None
 
 -- an ask for the session met a lock: the polls are used up, or the lock is too old, or the visit
 -- waits
-abbrev pub meets_lock_if : Bool → Bool → Progress → ℕ → Lock → Progress
+abbrev pub meets_lock_if : Bool → Bool → VisitState → ℕ → Lock → VisitState
 meets_lock_if true is_old visit t lock =
     record visit { locked = visit.locked + 1; stage = Over (GaveUp lock.cookie lock.age) }
 meets_lock_if false true visit t lock =
@@ -43,7 +43,7 @@ meets_lock_if false false visit t lock =
     record visit { locked = visit.locked + 1; stage = Asking (t + visit.terms.limits.poll_ms) }
 
 -- the two tests of a lock that was met
-abbrev pub meets_lock : Progress → ℕ → Lock → Progress
+abbrev pub meets_lock : VisitState → ℕ → Lock → VisitState
 meets_lock visit t lock =
     meets_lock_if (nat_le visit.terms.limits.polls (visit.locked + 1))
     (nat_lt visit.terms.limits.execution_secs lock.age) visit t lock
@@ -64,12 +64,12 @@ answered Reset (Reply Missing) = Over Done
 answered ask answer = refused answer
 
 -- an answer to an ask for the session, which names this lock or none
-abbrev pub hears_answer : Progress → ℕ → Heard → Option Lock → Progress
+abbrev pub hears_answer : VisitState → ℕ → Heard → Option Lock → VisitState
 hears_answer visit t answer (Some lock) = meets_lock visit t lock
 hears_answer visit t answer None = record visit { stage = answered visit.ask answer }
 
 -- an answer to a forced release
-abbrev pub hears_release : Progress → Heard → Progress
+abbrev pub hears_release : VisitState → Heard → VisitState
 hears_release visit (Reply done_reply) = asks_from visit 0
 hears_release visit (Reply Missing) = asks_from visit 0
 hears_release visit (Reply (Locked cookie age)) = asks_from visit 0
@@ -83,7 +83,7 @@ end_answered (Reply (Locked cookie age)) = Over (LostLocked cookie age)
 end_answered answer = refused answer
 
 -- an answer, by the stage that sent its request
-abbrev pub hears : Progress → ℕ → Stage → Heard → Progress
+abbrev pub hears : VisitState → ℕ → Stage → Heard → VisitState
 hears visit t (Asking from) answer = hears_answer visit t answer (lock_met visit.ask answer)
 hears visit t Forcing answer = hears_release visit answer
 hears visit t Ending answer = record visit { stage = end_answered answer }

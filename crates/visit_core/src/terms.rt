@@ -1,7 +1,7 @@
 //! What a page needs of its session, and how long it asks.
 ghost use Rattle.std.specs.Prelude.{◌≡◌, ◌↔◌, IsTrue};
 ghost use Rattle.visit_core.specs.Terms.{LimitsFit};
-ghost use Rattle.visit_core.specs.Rule.{ask_of};
+ghost use Rattle.visit_core.specs.Rule.{ask_for};
 
 use asp_messages::Ask;
 
@@ -28,7 +28,7 @@ pub enum Need {
 impl Need {
     /// What the page asks for first.
     pub(crate) fn ask(self) -> Ask
-        ensures { result ≡ ask_of self }
+        ensures { result ≡ ask_for self }
     {
         match self {
             Need::Exclusive => Ask::Acquire,

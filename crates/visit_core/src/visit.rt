@@ -3,7 +3,7 @@ ghost use Rattle.std.specs.Prelude.{◌≡◌, ◌+◌, ◌*◌, ◌≤◌, ◌<
 ghost use Rattle.asp_messages.specs.Ranges.{KeyFits};
 ghost use Rattle.asp_messages.specs.declared.request.Request.{Request};
 ghost use Rattle.visit_core.specs.Terms.{Terms, LimitsFit, EndingFits, HeardFits};
-ghost use Rattle.visit_core.specs.Acts.{action_of, send, wait_until, ActFits, IsSend, IsRun};
+ghost use Rattle.visit_core.specs.Acts.{action_of, send, wait_until, ActFits, IsSend, IsToRun};
 ghost use Rattle.visit_core.specs.Rule.{Event, heard, ended, lost, act_of};
 ghost use Rattle.visit_core.specs.Stages.{HasPast, Sends, Runs, steps_left, StageFits};
 ghost use Rattle.visit_core.specs.Tables.{LockFits, lock_met, answered, meets_lock, hears_answer, hears_release, hears};
@@ -29,9 +29,9 @@ pub struct Visit {
 }
 
 impl Model for Visit {
-    ghost use Rattle.visit_core.specs.Stages.{Progress, IsSound};
+    ghost use Rattle.visit_core.specs.Stages.{VisitState, IsSound};
 
-    ghost Value = { Progress };
+    ghost Value = { VisitState };
 
     ghost view = { λ v. record {
       terms = record {
@@ -78,7 +78,7 @@ impl Visit {
             → action_of result ≡ act_of self.now.terms past t }
         ensures in_range { ActFits (action_of result) }
         ensures sends { IsSend (action_of result) → Sends self.now t }
-        ensures runs { IsRun (action_of result) → Runs self.now }
+        ensures runs { IsToRun (action_of result) → Runs self.now }
         ensures waits { (u : ℕ) → action_of result ≡ wait_until u
             → steps_left self.now u < steps_left self.now t }
     {

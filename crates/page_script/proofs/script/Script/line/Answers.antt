@@ -1,5 +1,5 @@
 use Rattle.std.proofs.Common.{◌≡◌, subst}
-use Rattle.page_script.specs.World.{MayFollow}
+use Rattle.page_script.specs.World.{MayStandNext}
 use Rattle.page_script.proofs.ReadingLemmas.{one_line_each}
 use Rattle.page_script.proofs.LawfulLemmas.{lawful, forced}
 use Rattle.page_script.proofs.script.Script.line.Goals as goal
@@ -9,7 +9,7 @@ returns-in-Ok-Some-clause-not_a_line g c end world line stands is_line follows =
     let read = rw c.in-Ok-Some.field-0-is at c.in-Ok-Some.ensures in
     let same : line ≡ c.in-Ok-Some.line = one_line_each c.args.text.now line c.in-Ok-Some.line
     is_line read.line in
-    c.run.ensures.not_a_line end world stands (subst (MayFollow world) same follows)
+    c.run.ensures.not_a_line end world stands (subst (MayStandNext world) same follows)
 
 pub returns-then-self-clause-lawful : goal.returns-then-self-clause-lawful
 returns-then-self-clause-lawful g c world stands =
