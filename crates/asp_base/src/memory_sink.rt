@@ -42,8 +42,7 @@ impl Model for MemorySink {
 
 impl MemorySink {
     /// A sink with room for `room` bytes. `fails` lists the numbers of the writes that fail, from
-    /// 0;
-    /// a failed write takes nothing. The only error is want of memory for the room.
+    /// 0; a failed write takes nothing. The only error is want of memory for the room.
     pub fn new(
         alloc: Global,
         room: u64,

@@ -39,8 +39,7 @@ impl StepClock {
     }
 
     /// The next moment: the k-th call, from 0, gives the lesser of `start + k * step` and the
-    /// latest
-    /// moment.
+    /// latest moment.
     pub fn tick(&mut self) -> u64
         ensures moment { result ≡ self.old.next }
         ensures in_range { result ≤ 2 ^ 62 }

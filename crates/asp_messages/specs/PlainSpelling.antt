@@ -1,6 +1,5 @@
 -- The plain spelling of asks and replies, which journals and scripts use: words with one space
--- between two, numbers in
--- decimal without leading zeros. Cookie 0 stands for none.
+-- between two, numbers in decimal without leading zeros. Cookie 0 stands for none.
 use Rattle.std.specs.Prelude.{ℕ, List, ◌++◌, codes, decimal, Option, Some, None, Bool, if◌then◌else◌}
 use Rattle.hex.specs.Hex.{encode_lower}
 use Rattle.asp_messages.specs.declared.request.Ask.{Ask}

@@ -1,6 +1,5 @@
 -- The bytes that spell a reply ([MS-ASP], section 2.2; the ranges and the statuses 500, 503, 507
--- and 508 are this
--- project's own).
+-- and 508 are this project's own).
 use Rattle.std.specs.Prelude.{◌≡◌, ℕ, ◌^◌, List, [], ◌∷◌, codes, Option, Some, None, ◌==◌, if◌then◌else◌}
 use Rattle.httparse.specs.Grammar.{ResponseHead, status_code}
 use Rattle.asp_messages.specs.declared.reply.Reply.{Reply}

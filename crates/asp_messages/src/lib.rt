@@ -1,6 +1,5 @@
 //! Requests and replies of the state server protocol: the values, the texts that spell them, and
-//! the
-//! stream that a connection's bytes are.
+//! the stream that a connection's bytes are.
 #![tactic(auto)]
 
 mod append;

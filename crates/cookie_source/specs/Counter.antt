@@ -34,9 +34,9 @@ pub record IsDrawer (first counter : ℕ) (v : DrawerView) : Type 0 where
   pub drew_below : All (λ n. n < counter) v.drawn
 
 -- Between any two steps each cookie from the first one on and below the counter was drawn once, by
--- one drawer, and no other number was drawn:
--- however the numbers are weighed, those drawn weigh what those cookies weigh. Where each weighs 1,
--- the counter is the first cookie plus the number of draws.
+-- one drawer, and no other number was drawn: however the numbers are weighed, those drawn weigh
+-- what those cookies weigh. Where each weighs 1, the counter is the first cookie plus the number of
+-- draws.
 pub record IsCounted (first : ℕ) (s : State (Unit {0}) DrawerView) : Type 0 where
   pub one_word : length s.words ≡ 1
   pub from_first : first ≤ slice_index s.words 0

@@ -97,8 +97,8 @@ impl CookieSource {
     /// past the last one.
     ///
     /// It waits for nobody: where another drawer was faster it tries the counter's new cookie,
-    /// which is greater, so it returns after at most
-    /// one attempt for each cookie from the first to the last.
+    /// which is greater, so it returns after at most one attempt for each cookie from the first to
+    /// the last.
     pub fn draw<R>(&self, _rt: &R, drawer: &mut Drawer) -> Option<u64>
         requires home { drawer_home drawer.old ≡ source_id self.now }
         ensures home { drawer_home drawer.new ≡ drawer_home drawer.old }

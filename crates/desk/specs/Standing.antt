@@ -14,9 +14,8 @@ pub record DeskOf (K : Type 0) : Type 0 where
   pub cookies : Counter
 
 -- What a desk's keeper tells and counts (told, now) are those after the history, each of whose
--- counts of faults is one that a keeper of the
--- type can have; and the cookies drawn in it are those from the first on, in order. None of the
--- cookies left was drawn, or is held in the opening map.
+-- counts of faults is one that a keeper of the type can have; and the cookies drawn in it are those
+-- from the first on, in order. None of the cookies left was drawn, or is held in the opening map.
 pub record DeskStandsFor (CanCount : ℕ → Type 0) (first : ℕ) (opening : List ℕ → Option Item)
     (count : ℕ) (list : List Entry)
     (told : Option (List ℕ → Option Item)) (now : ℕ) (cookies : Counter) : Type 0 where

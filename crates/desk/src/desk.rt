@@ -109,8 +109,7 @@ impl<K: Keeper> Desk<K> {
     }
 
     /// Looks for an item that has expired at the moment `t`, in milliseconds, and removes the one
-    /// that
-    /// expired first.
+    /// that expired first.
     pub fn sweep_one(&mut self, t: u64) -> Swept
         requires { t ≤ 2 ^ 62 }
 

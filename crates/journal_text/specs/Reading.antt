@@ -52,8 +52,7 @@ abbrev pub IsCutOff : Bool → List ℕ → Type 0
 IsCutOff is_begun rest = HasNo 10 rest × ((rest ≢ []) ⊎ (is_begun ≡ false))
 
 -- The text stops being a journal at this offset: that of its first line that is none of its place,
--- or of a last line
--- without its line feed.
+-- or of a last line without its line feed.
 pub record StopsAt (text : List ℕ) (offset : ℕ) : Type 0 where
   pub taken : Taken
   pub rest : List ℕ
@@ -65,8 +64,7 @@ pub record StopsAt (text : List ℕ) (offset : ℕ) : Type 0 where
 -- ---- readers
 
 -- A reader: the bytes that were fed and not taken, how many were taken before them, whether the
--- first line was taken, whether
--- it is broken, and whether it may be fed.
+-- first line was taken, whether it is broken, and whether it may be fed.
 pub record Reading : Type 0 where
   pub held : List ℕ
   pub offset : ℕ

@@ -13,8 +13,7 @@ use std::alloc::Global;
 use std::marker::Model;
 
 /// It takes the entries of a list in turn, and judges whether they are a legal history from no
-/// items
-/// and no fault. It keeps the items that there are, and no entry.
+/// items and no fault. It keeps the items that there are, and no entry.
 #[derive(Debug, Drop)]
 pub struct Checker {
     alloc: Global,
@@ -43,8 +42,7 @@ impl Model for Checker {
 
 impl Checker {
     /// A checker that has taken no entry. The first that it takes has the place `first_place`,
-    /// below
-    /// 2^63 - 1. It takes no memory.
+    /// below 2^63 - 1. It takes no memory.
     pub fn new(alloc: Global, first_place: u64) -> Checker
         requires { first_place < 2 ^ 63 - 1 }
         ensures first { result.first ≡ first_place }

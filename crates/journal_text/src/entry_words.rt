@@ -54,8 +54,7 @@ fn cut_line(line: &[u8]) -> Option<Cut<'_>>
 }
 
 /// The deed in range that the words spell on this key; `None` exactly where they spell none. The
-/// only
-/// error is want of memory for its key and content.
+/// only error is want of memory for its key and content.
 fn read_deed(alloc: Global, key: &[u8], text: &[u8]) -> Result<Option<Deed>, NoMemory>
     ensures { IfOk result (ReadsAs (IsDeed key.now text.now)) }
 {
@@ -98,8 +97,7 @@ fn answer_fits(deed: &Deed, drawn: u64, reply: &Reply) -> bool
 }
 
 /// The entry that the words of a line spell; `None` exactly where they spell none. The only error
-/// is
-/// want of memory for its keys and content.
+/// is want of memory for its keys and content.
 pub fn read_entry(alloc: Global, line: &[u8]) -> Result<Option<Entry>, NoMemory>
     ensures { IfOk result (ReadsAs (IsEntry line.now)) }
 {

@@ -87,8 +87,7 @@ impl JournalReader {
     }
 
     /// Adds a piece of at most 16,384 bytes to those held; a broken reader keeps nothing. The
-    /// caller
-    /// has heard `More` or `NotAJournal` since the last piece. After `NoMemory` nothing has
+    /// caller has heard `More` or `NotAJournal` since the last piece. After `NoMemory` nothing has
     /// changed.
     pub fn feed(&mut self, piece: &[u8]) -> Result<(), NoMemory>
         requires piece { length piece.now ≤ most_piece }
@@ -221,10 +220,8 @@ impl JournalReader {
     }
 
     /// Where a text that ends here is no journal: `None` exactly where it is one. Else the offset
-    /// of
-    /// the line at which the reader is broken, or of a last line without its line feed, or 0 for
-    /// the
-    /// empty text. The caller has heard `More` or `NotAJournal` since the last piece.
+    /// of the line at which the reader is broken, or of a last line without its line feed, or 0 for
+    /// the empty text. The caller has heard `More` or `NotAJournal` since the last piece.
     pub fn finish(&self) -> Option<u64>
         requires { IsTrue self.now.may_feed }
         ensures whole { result ≡ None ↔ (IsFalse self.now.is_broken × IsTrue self.now.is_begun

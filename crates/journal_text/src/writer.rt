@@ -126,8 +126,7 @@ fn reply_has_bytes(reply: &Reply)
 }
 
 /// Appends the first line of a journal whose first entry has this place. After `NoMemory` the
-/// buffer
-/// holds what it held.
+/// buffer holds what it held.
 pub fn write_head(out: &mut Vec<u8>, place: u64) -> Result<(), NoMemory>
     requires { PlaceFits place }
     ensures ok { OnOk result (out.new.items ≡ out.old.items ++ head_line place) }

@@ -100,8 +100,7 @@ answered g reply = record {
 -- ---- the entries
 
 -- The entries are those of a generator's requests from here on, in order, where j cookies have been
--- drawn: caller 0, each at its moment,
--- and each acquire draws the next cookie, from 1 on.
+-- drawn: caller 0, each at its moment, and each acquire draws the next cookie, from 1 on.
 abbrev pub AreMade : Generating → ℕ → List Entry → Type 0
 AreMade g j [] = ⊤
 AreMade g j (e ∷ es) =

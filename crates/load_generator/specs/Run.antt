@@ -73,9 +73,9 @@ EndsLoad n status sink sink' told requests removals looks =
     ⊎ ((status ≡ 6) × (sink' ≡ sink)))
 
 -- A load of n requests: the requests by the generator's numbers, then items that expired, and a
--- last look. The keeper that is handed back has the items
--- and the count after these entries. (CanCount says which counts of faults the keeper's type can
--- have; told and faults are what the keeper tells and counts then.)
+-- last look. The keeper that is handed back has the items and the count after these entries.
+-- (CanCount says which counts of faults the keeper's type can have; told and faults are what the
+-- keeper tells and counts then.)
 pub record IsLoad (CanCount : ℕ → Type 0) (n seed : ℕ) (sink sink' : Option (List ℕ))
     (told : Option (List ℕ → Option Item)) (faults status : ℕ) : Type 0 where
   pub requests : List Entry

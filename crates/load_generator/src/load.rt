@@ -53,8 +53,7 @@ fn ask_all<K: Keeper>(alloc: Global, load: Load, desk: &mut Desk<K>) -> Result<C
 }
 
 /// Writes what was counted, and answers a status: 0, 5 where the sink failed, or 6 where there was
-/// no
-/// memory for the text and nothing was written.
+/// no memory for the text and nothing was written.
 fn write_counts<T: Sink>(
     alloc: Global,
     requests: u64,
@@ -76,8 +75,7 @@ fn write_counts<T: Sink>(
 }
 
 /// Makes the requests of a load over the keeper, sweeps at the latest moment, writes the counts,
-/// and
-/// hands the keeper back. It reads nothing, waits for nobody, and returns.
+/// and hands the keeper back. It reads nothing, waits for nobody, and returns.
 ///
 /// The status is 0; 5 where the sink failed; 6 where memory was wanting, and then nothing was
 /// written.

@@ -11,8 +11,7 @@ use keeper::Keeper;
 use shard_core::Swept;
 
 /// Removes the items that have expired at the latest moment by at most `most` looks, and answers
-/// how
-/// many were removed.
+/// how many were removed.
 pub fn sweep<K: Keeper>(desk: &mut Desk<K>, most: u64) -> u64
     requires { 0 < desk.old.cookies.next }
     ensures sweeps { (first : ℕ) (list : List Entry)

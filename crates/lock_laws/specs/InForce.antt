@@ -1,7 +1,6 @@
 -- When a lock is in force: as long as it was granted, was not ended since, and has not run out with
--- its item's timeout. This is
--- read off what was asked, what was answered and at which moments. A lock is known by its cookie;
--- moments are milliseconds.
+-- its item's timeout. This is read off what was asked, what was answered and at which moments. A
+-- lock is known by its cookie; moments are milliseconds.
 use Rattle.std.specs.Prelude.{◌≡◌, ℕ, ◌+◌, ◌*◌, ◌<◌, max, List, [], ◌∷◌, ◌++◌, filter, Option, Some, None, Bool, true, false, not, ◌&&◌, ◌||◌, nat_le, ◌==◌, if◌then◌else◌, IsFalse, ⊤}
 use Rattle.asp_messages.specs.declared.request.Ask.{Ask}
 use Rattle.asp_messages.specs.declared.request.Ask.TheVariants.{Release, Write, Remove, Reset}
@@ -128,8 +127,7 @@ touched_of None = 0
 touched_of (Some item) = item.touched
 
 -- The lock of the cookie is in force for the key at a moment behind the entries before: it was
--- granted, no entry of the key
--- since then has ended it, and it has not run out.
+-- granted, no entry of the key since then has ended it, and it has not run out.
 pub record IsInForce (opening : List ℕ → Option Item) (count : ℕ) (key : List ℕ) (cookie : ℕ)
     (before : List Entry) (moment : ℕ) : Type 0 where
   pub grant : Grant

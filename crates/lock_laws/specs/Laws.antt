@@ -115,8 +115,7 @@ pub record Changes (opening : List ℕ → Option Item) (count : ℕ) (key : Lis
   pub acts : Acts opening count key before e
 
 -- Since the grant, which is the last of until, no entry has acquired a lock or changed the item;
--- nor does the entry e that stands
--- behind, unless it names the cookie of the grant.
+-- nor does the entry e that stands behind, unless it names the cookie of the grant.
 pub record IsAlone (opening : List ℕ → Option Item) (count : ℕ) (key : List ℕ) (grant : Grant)
     (until since : List Entry) (e : Entry) : Type 0 where
   pub nobody_acquired : (middle : List Entry) (f : Entry) → StandsAt since key middle f

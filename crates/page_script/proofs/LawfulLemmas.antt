@@ -173,4 +173,4 @@ module _ {K : Type 0} (CanCount : ℕ → Type 0) (told : K → Option (List ℕ
 
     pub forced : IfTold (told (keeper_of script)) (ForcesOldLocks world)
     forced = if-legal (history world.turns) (told (keeper_of script)) (ForcesOldLocks world)
-        stands.desk.keeper.told_is (λ legal. forces world legal lawful)
+        stands.desk.stands.stands.told_is (λ legal. forces world legal lawful)

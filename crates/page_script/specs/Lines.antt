@@ -43,8 +43,7 @@ abbrev pub step_words : ℕ → List ℕ → List ℕ
 step_words moment name = decimal moment then name
 
 -- the one spelling of a line, without its line feed: words with one space between two, numbers in
--- decimal without
--- leading zeros, bytes as `x` and two lower-case hexadecimal digits each
+-- decimal without leading zeros, bytes as `x` and two lower-case hexadecimal digits each
 abbrev pub line_text : Line → List ℕ
 line_text (lines.Limits limits) = codes "limits" then limits_words limits
 line_text (lines.Page page) = codes "page" then page_words page

@@ -6,18 +6,17 @@ use Rattle.asp_messages.specs.declared.request.Ask.{Ask}
 use Rattle.asp_messages.specs.declared.request.Request.{Request}
 use Rattle.asp_messages.specs.declared.reply.Reply.{Reply}
 use Rattle.asp_messages.specs.Fields.{most_cookie}
-use Rattle.cookie_source.specs.Counting.{Counter, counter_after}
+use Rattle.cookie_source.specs.Counting.{Counter}
 use Rattle.session_machine.specs.declared.item.Item.{Item}
 use Rattle.session_machine.specs.History.{nothing}
-use Rattle.shard_core.specs.Standing.{StandsFor}
+use Rattle.desk.specs.Standing.{DeskOf, DeskStandsFor}
 use Rattle.visit_core.specs.Rule.{Event, act_of, has_ended}
 use Rattle.visit_core.specs.Stages.{HasPast}
-use Rattle.page_script.specs.declared.desk.Desk.{Desk}
 use Rattle.page_script.specs.declared.line.Line.{Line}
 use Rattle.page_script.specs.declared.script_page.ScriptPage.{ScriptPage}
 use Rattle.page_script.specs.declared.script.Script.{Script}
 use Rattle.page_script.specs.Lines.{IsLine}
-use Rattle.page_script.specs.World.{Page, Turn, World, history, event_of, draws, total_draws, drawn_after, Performs, with_events, WorldStep, turns_of, is_heard}
+use Rattle.page_script.specs.World.{Page, Turn, World, history, event_of, drawn_for, Performs, with_events, WorldStep, turns_of, is_heard}
 
 -- ---- the desk
 
@@ -27,34 +26,20 @@ pub record DeskState : Type 0 where
   pub faults : ℕ
   pub cookies : Counter
 
--- The desk stands for the turns: the keeper stands for their history, and the acquires among them
--- drew the cookies before the next one.
+-- The desk stands for the history of the turns, with the cookies from 1 to the last there is.
 -- (CanCount says which counts of faults a keeper of this type can have.)
 pub record DeskStands (CanCount : ℕ → Type 0) (desk : DeskState) (turns : List Turn) : Type 0 where
-  pub keeper : StandsFor nothing 0 (history turns) desk.told desk.faults
-  pub counts : AllByRecursion (λ turn. CanCount turn.faults) turns
-  pub drawn_below : AllByRecursion (λ turn. turn.drawn < desk.cookies.next) turns
-  pub cookie : desk.cookies.next ≡ counter_after 1 most_cookie (total_draws turns)
+  pub stands : DeskStandsFor CanCount 1 nothing 0 (history turns) desk.told desk.faults desk.cookies
+  pub last : desk.cookies.last ≡ most_cookie
 
 -- the state of a desk, whose keeper tells and counts so
-abbrev pub state_of : {K : Type 0} → (K → Option (List ℕ → Option Item)) → (K → ℕ) → Desk K
+abbrev pub state_of : {K : Type 0} → (K → Option (List ℕ → Option Item)) → (K → ℕ) → DeskOf K
     → DeskState
 state_of told count desk = record {
-  told = told desk.shard;
-  faults = count desk.shard;
-  cookies =
-      desk.cookies;
+  told = told desk.keeper;
+  faults = count desk.keeper;
+  cookies = desk.cookies;
 }
-
--- The ask drew its cookie by counting.
-pub record Draws (old new : Counter) (ask : Ask) (drawn : ℕ) : Type 0 where
-  pub nth : (count : ℕ) → old.next ≡ counter_after 1 most_cookie count
-      → (drawn ≡ drawn_after count ask) × (new.next
-      ≡ counter_after 1 most_cookie (count + draws ask))
-  pub above : 0 < drawn → old.next ≤ drawn
-  pub below : drawn < new.next
-  pub rises : old.next ≤ new.next
-  pub last : new.last ≡ old.last
 
 -- the turn of a page that sends this request behind other turns, and is answered so
 abbrev pub turn_at : ℕ → ℕ → Request → List Turn → Reply → ℕ → Turn
@@ -62,7 +47,7 @@ turn_at number t request turns reply faults = record {
   page = number;
   moment = t;
   request = request;
-  drawn = drawn_after (total_draws turns) request.ask;
+  drawn = drawn_for turns request.ask;
   reply = reply;
   faults = faults;
 }
@@ -70,8 +55,8 @@ turn_at number t request turns reply faults = record {
 -- ---- a page
 
 -- A page of a script stands for the page of the world with this number: its visit has the page's
--- past, the ending is kept until
--- the visit is told of it, and what the visit heard is the page's own turns.
+-- past, the ending is kept until the visit is told of it, and what the visit heard is the page's
+-- own turns.
 pub record PageStands (turns : List Turn) (number : ℕ) (held : ScriptPage) (page : Page) : Type
     0 where
   pub name : held.name ≡ page.name
@@ -128,7 +113,7 @@ EachMayStep CanCount t held held' desk desk' =
 
 -- the keeper of a script
 abbrev pub keeper_of : {K : Type 0} → Script K → K
-keeper_of script = script.desk.shard
+keeper_of script = script.desk.keeper
 
 -- memory was wanting
 abbrev pub IsOver : {K : Type 0} → Script K → Type 0

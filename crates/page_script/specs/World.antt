@@ -1,7 +1,6 @@
 -- The world of a script: named pages that visit one state server by a schedule, and what is printed
--- of it. Each page follows the
--- rule of a visit, and each request that it sends is one step of the session machine, whose reply
--- it hears at once.
+-- of it. Each page follows the rule of a visit, and each request that it sends is one step of the
+-- session machine, whose reply it hears at once.
 use Rattle.std.specs.Prelude.{◌≡◌, ℕ, ◌+◌, ◌<◌, List, [], ◌∷◌, ◌++◌, length, map, filter, codes, decimal, unwrap_or, Option, Some, None, Bool, true, false, ◌==◌, ⊤}
 use Rattle.asp_messages.specs.declared.request.Request.{Request}
 use Rattle.asp_messages.specs.declared.request.Ask.{Ask}
@@ -11,7 +10,7 @@ use Rattle.asp_messages.specs.declared.reply.Reply.TheVariants.{Locked}
 use Rattle.asp_messages.specs.Fields.{most_cookie}
 use Rattle.asp_messages.specs.PlainSpelling.{◌then◌, flag_word, bytes_word, ask_spelling, reply_spelling}
 use Rattle.asp_messages.specs.Ranges.{ReplyFits}
-use Rattle.cookie_source.specs.Counting.{nth_cookie}
+use Rattle.desk.specs.Draws.{draw_of, draws_in}
 use Rattle.session_machine.specs.declared.entry.Entry.{Entry}
 use Rattle.session_machine.specs.History.{nothing}
 use Rattle.shard_core.specs.Standing.{asked_entry}
@@ -37,8 +36,8 @@ pub record Page : Type 0 where
   pub past : List Event
 
 -- A request that was sent: by which page, counted from 0, at which moment, with which cookie drawn
--- for it (0 where none was),
--- how it was answered, and how many faults the keeper of the items had counted then.
+-- for it (0 where none was), how it was answered, and how many faults the keeper of the items had
+-- counted then.
 pub record Turn : Type 0 where
   pub page : ℕ
   pub moment : ℕ
@@ -75,32 +74,19 @@ history turns = map entry_of turns
 abbrev pub event_of : Turn → Event
 event_of turn = heard turn.moment turn.request (Reply turn.reply)
 
--- ---- cookies
-
--- how many cookies an ask draws
-abbrev pub draws : Ask → ℕ
-draws Acquire = 1
-draws ask = 0
-
--- how many cookies were drawn
-abbrev pub total_draws : List Turn → ℕ
-total_draws [] = 0
-total_draws (turn ∷ turns) = draws turn.request.ask + total_draws turns
-
--- what an ask draws after so many draws: each acquire draws one more than the acquire before it,
--- from 1 on, and 0 past the last cookie
-abbrev pub drawn_after : ℕ → Ask → ℕ
-drawn_after count Acquire = unwrap_or (nth_cookie 1 most_cookie count) 0
-drawn_after count ask = 0
-
 -- ---- one step of a page
+
+-- what an ask draws behind these turns: each acquire draws one more than the acquire before it, from
+-- 1 on, and 0 past the last cookie
+abbrev pub drawn_for : List Turn → Ask → ℕ
+drawn_for turns ask = draw_of 1 most_cookie (draws_in (history turns)) ask
 
 -- the turn of the page with this number that sends this request at this moment, behind other turns
 pub record IsTurn (number t : ℕ) (sent : Request) (turns : List Turn) (turn : Turn) : Type 0 where
   pub page : turn.page ≡ number
   pub moment : turn.moment ≡ t
   pub request : turn.request ≡ sent
-  pub drawn : turn.drawn ≡ drawn_after (total_draws turns) sent.ask
+  pub drawn : turn.drawn ≡ drawn_for turns sent.ask
   pub fits : ReplyFits turn.reply
 
 -- the words for a request and its reply
@@ -113,9 +99,8 @@ run_words None first = codes "run none"
 run_words (Some content) first = codes "run" then flag_word first then bytes_word content
 
 -- What a step of a page adds to its past and to the turns, and its words, where its visit's act is
--- this:
--- a request is answered, and the answer is heard at once; a page that runs ends so in the same
--- step; to wait, and to be over, changes nothing.
+-- this: a request is answered, and the answer is heard at once; a page that runs ends so in the
+-- same step; to wait, and to be over, changes nothing.
 abbrev pub Performs : Action → ℕ → ℕ → Ending → List Turn → List Event → List Turn → List ℕ → Type 0
 Performs (send request) t number ending turns events asked words =
     (turn : Turn) × IsTurn number t request turns turn × (events ≡ event_of turn ∷ [])
@@ -228,9 +213,8 @@ IsLawfulWorld world = (before : List Page) (page : Page) (behind : List Page)
     → world.pages ≡ before ++ page ∷ behind → IsLawfulPage world.turns (length before) page
 
 -- The page with this number met a lock that is older than a page may run: its last event is the
--- answer to its own ask that this lock
--- is in the way, and the lock was in force at that place of the history, and as old as the answer
--- says.
+-- answer to its own ask that this lock is in the way, and the lock was in force at that place of
+-- the history, and as old as the answer says.
 pub record MetOldLock (turns : List Turn) (number : ℕ) (page : Page) (cookie : ℕ) : Type 0 where
   pub met : MeetsOldLock page.terms page.past cookie
   pub before : List Turn

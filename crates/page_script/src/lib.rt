@@ -1,10 +1,9 @@
 //! Page scripts: the lines of a script, read from their text, and the world in which they run,
-//! where
-//! many pages visit one state server by a schedule.
+//! where many pages visit one state server by a schedule.
 #![tactic(auto)]
 
-mod desk;
 mod laws;
+mod answering;
 mod line;
 mod name;
 mod page;

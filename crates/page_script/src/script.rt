@@ -3,10 +3,11 @@ ghost use Rattle.std.specs.Prelude.{◌≡◌, ◌<◌, ◌++◌, ◌∷◌, [],
 ghost use Rattle.visit_core.specs.Terms.{LimitsFit};
 ghost use Rattle.page_script.specs.Places.{IsUnused, IsIndexOf};
 
-use crate::desk::Desk;
 use crate::script_page::ScriptPage;
 use crate::{Line, Name, PageLine, read_line};
 use asp_base::NoMemory;
+use asp_messages::MOST_COOKIE;
+use desk::Desk;
 use keeper::Keeper;
 use std::alloc::Global;
 use visit_core::Limits;
@@ -87,7 +88,7 @@ impl<K: Keeper> Script<K> {
     {
         Script {
             alloc,
-            desk: Desk::new(alloc, keeper),
+            desk: Desk::new(alloc, keeper, 1, MOST_COOKIE),
             pages: Vec::new(alloc),
             limits: Limits::default(),
             is_over: false,
@@ -189,8 +190,7 @@ impl<K: Keeper> Script<K> {
     }
 
     /// Runs one line, without its line feed, and appends what is printed for it. After `NoMemory`
-    /// the
-    /// script is over, and each later line answers `NoMemory`; the last step was made or not.
+    /// the script is over, and each later line answers `NoMemory`; the last step was made or not.
     pub fn line(&mut self, text: &[u8], out: &mut Vec<u8>) -> LineEnd
         // Each world that the script stands for takes the line, and what is printed for it was
         // appended.
@@ -243,12 +243,12 @@ impl<K: Keeper> Script<K> {
         ensures history { (world : World) → Stands K.can_count K.told K.count self world
             → StandsFor nothing 0 (history world.turns) (K.told result) (K.count result) }
         ensures counts { (world : World) → Stands K.can_count K.told K.count self world
-            → AllByRecursion (λ turn. K.can_count turn.faults) world.turns }
+            → AllByRecursion (λ e. K.can_count e.faults) (history world.turns) }
         ensures lawful { (world : World) → Stands K.can_count K.told K.count self world
             → IsLawfulWorld world }
         ensures forced { (world : World) → Stands K.can_count K.told K.count self world
             → IfTold (K.told result) (ForcesOldLocks world) }
     {
-        self.desk.shard.into_keeper()
+        self.desk.into_keeper()
     }
 }

@@ -3,11 +3,12 @@ ghost use Rattle.std.specs.Prelude.{IfSome};
 ghost use Rattle.visit_core.specs.Terms.{EndingFits};
 ghost use Rattle.page_script.specs.Endings.{ending_fits-prop};
 
-use crate::desk::Desk;
+use crate::answering::answer;
 use crate::text::{push_ask, push_over, push_reply, push_run, push_start, push_wait};
 use crate::{Name, PageLine};
 use asp_base::NoMemory;
 use asp_messages::{Request, or_undo};
+use desk::Desk;
 use keeper::Keeper;
 use std::alloc::Global;
 use visit_core::{Act, Ending, Heard, Limits, Visit};
@@ -67,10 +68,10 @@ impl ScriptPage {
         ensures err { OnErr result (EachMayStep K.can_count t self.old self.new
             (state_of K.told K.count desk.old) (state_of K.told K.count desk.new)) }
         ensures extends { OnErr result (Extends out.old.items out.new.items) }
-        ensures floor { K.floor desk.new.shard ≡ K.floor desk.old.shard }
+        ensures floor { K.floor desk.new.keeper ≡ K.floor desk.old.keeper }
     {
         push_ask(out, &request.ask)?;
-        let reply = desk.ask(request, t);
+        let reply = answer(desk, request, t);
         let written = push_reply(out, &reply);
         self.visit.heard(t, Heard::Reply(reply));
         written
@@ -104,7 +105,7 @@ impl ScriptPage {
         ensures err { OnErr result (EachMayStep K.can_count t self.old self.new
             (state_of K.told K.count desk.old) (state_of K.told K.count desk.new)) }
         ensures extends { OnErr result (Extends out.old.items out.new.items) }
-        ensures floor { K.floor desk.new.shard ≡ K.floor desk.old.shard }
+        ensures floor { K.floor desk.new.keeper ≡ K.floor desk.old.keeper }
     {
         push_start(out, t, self.name.as_slice())?;
         match self.visit.next(t) {
@@ -139,7 +140,7 @@ impl ScriptPage {
         ensures err { OnErr result (EachMayStep K.can_count t self.old self.new
             (state_of K.told K.count desk.old) (state_of K.told K.count desk.new)) }
         ensures same { OnErr result (out.new.items ≡ out.old.items) }
-        ensures floor { K.floor desk.new.shard ≡ K.floor desk.old.shard }
+        ensures floor { K.floor desk.new.keeper ≡ K.floor desk.old.keeper }
     {
         let len = out.len();
         let written = self.print_step(alloc, desk, t, out);

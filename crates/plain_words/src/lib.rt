@@ -1,6 +1,5 @@
 //! The words of the plain spelling, which journals and page scripts use, read: decimal numbers
-//! without
-//! leading zeros, byte strings, flags, and a text cut at its spaces.
+//! without leading zeros, byte strings, flags, and a text cut at its spaces.
 #![tactic(auto)]
 
 mod byte_string;

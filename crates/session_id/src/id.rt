@@ -68,9 +68,8 @@ impl Id {
 }
 
 /// A law, with nothing to run: identifiers and the texts that read are in one-to-one
-/// correspondence,
-/// those texts are the ones of 24 characters of the alphabet, and each five bytes are written by
-/// eight characters of their own, a number of 40 bits.
+/// correspondence, those texts are the ones of 24 characters of the alphabet, and each five bytes
+/// are written by eight characters of their own, a number of 40 bits.
 pub fn correspondence()
     ensures characters { (text : List ℕ)
         → (IsTrue (is_text text) ↔ ((length text ≡ 24) × All (Contains alphabet) text)) }

@@ -1,6 +1,5 @@
 -- Histories: what was done to the items of all sessions, in order. A history is a list of entries;
--- the items at its beginning
--- are a function from keys to items.
+-- the items at its beginning are a function from keys to items.
 use Rattle.std.specs.Prelude.{◌≡◌, ◌⊎◌, ℕ, ◌+◌, ◌-◌, ◌<◌, ◌≤◌, ◌^◌, max, List, [], ◌∷◌, Option, Some, None, Bool, false, nat_le, min, if◌then◌else◌, IsTrue, IsFalse, IfSome, ⊤}
 use Rattle.std.specs.Str.{bytes_eq}
 use Rattle.std.specs.List.{AllByRecursion}

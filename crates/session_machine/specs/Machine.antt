@@ -105,8 +105,8 @@ effect old t drawn Acquire = if drawn == 0 then (CookiesOut, old) else
 effect old t drawn ask = on_seen (seen old t) t drawn ask
 
 -- From the item old, a request at the moment t that drew the cookie drawn may be answered so and
--- leave new: by the machine's
--- own reply, or by want of memory or a counted fault of the keeper (rose), which change nothing.
+-- leave new: by the machine's own reply, or by want of memory or a counted fault of the keeper
+-- (rose), which change nothing.
 abbrev pub Step : Option Item → ℕ → ℕ → Ask → Bool → Reply → Option Item → Type 0
 Step old t drawn ask rose NoMemory new = new ≡ old
 Step old t drawn ask rose KeeperFault new = IsTrue rose × (new ≡ old)

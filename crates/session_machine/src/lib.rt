@@ -1,6 +1,5 @@
 //! The rules of one session's item: how long it lives, what each request does to it, and the
-//! entries
-//! that a history is made of.
+//! entries that a history is made of.
 #![tactic(auto)]
 
 mod decision;

@@ -56,8 +56,7 @@ impl<K: Keeper> Shard<K> {
     }
 
     /// Answers a request at the moment `t`, in milliseconds. `drawn` is the cookie that was drawn
-    /// for
-    /// an acquire, 0 where none was left. At most one `get` of the keeper is made and then one
+    /// for an acquire, 0 where none was left. At most one `get` of the keeper is made and then one
     /// `put` or
     /// `cut`; the request's content is moved into the keeper.
     pub fn act(&mut self, request: Request, t: u64, drawn: u64) -> Reply

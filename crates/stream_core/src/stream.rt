@@ -44,8 +44,7 @@ impl Stream {
     }
 
     /// Adds a piece of at most 16,384 bytes; a broken stream keeps nothing. After `NoMemory`
-    /// nothing
-    /// has changed.
+    /// nothing has changed.
     pub fn take(&mut self, piece: &[u8]) -> Result<(), NoMemory>
         requires piece { length piece.now ≤ most_piece }
         requires may_feed { IsTrue self.old.reader.may_feed }
@@ -95,8 +94,7 @@ impl Stream {
     }
 
     /// The head of the last `Bad` reply, where the bytes are no whole messages: the stream is
-    /// broken, or
-    /// holds a byte. It takes no memory.
+    /// broken, or holds a byte. It takes no memory.
     pub fn finish(&mut self) -> Option<ReplyHead>
         ensures finished { IsNone result ↔ IsFinished self.old }
         ensures head { IfSome result (λ head. head ≡ head_text Bad) }

@@ -1,9 +1,7 @@
 -- The rule of a visit: what it does next is fixed by its past, which is a list of events and no
--- state. (Polling, the
--- forced release and the requests at a page's end are those of ASP.NET's SessionStateModule; the
--- limit on polls, the
--- outcomes, and what follows the answers that its documentation leaves open are this project's
--- own.)
+-- state. (Polling, the forced release and the requests at a page's end are those of ASP.NET's
+-- SessionStateModule; the limit on polls, the outcomes, and what follows the answers that its
+-- documentation leaves open are this project's own.)
 use Rattle.std.specs.Prelude.{◌≡◌, ◌≢◌, ℕ, ◌+◌, ◌<◌, List, [], ◌∷◌, ◌++◌, reverse, Option, Some, None, Bool, true, false, nat_le, nat_lt, if◌then◌else◌, ⊤}
 use Rattle.asp_messages.specs.declared.request.Request.{Request}
 use Rattle.asp_messages.specs.declared.request.Ask.{Ask}
@@ -86,9 +84,8 @@ refused (Reply reply) = over (Refused (status_number reply))
 refused (Strange status) = over (Refused status)
 
 -- At moment u an ask for the session, the last of so many, met a lock of this cookie and age: the
--- visit gives up where
--- the polls are used up, releases a lock that is older than a page may run, and else waits and asks
--- again.
+-- visit gives up where the polls are used up, releases a lock that is older than a page may run,
+-- and else waits and asks again.
 abbrev pub after_locked : Terms → ℕ → ℕ → ℕ → ℕ → ℕ → Action
 after_locked terms count u cookie age t =
     if nat_le terms.limits.polls count
@@ -180,8 +177,7 @@ IsLawful terms past = EachFollows terms (reverse past)
 -- ---- the forced release
 
 -- The page needs its session's content, the last event is the answer to the visit's own ask that a
--- lock of this cookie,
--- older than a page may run, is in the way, and polls are left.
+-- lock of this cookie, older than a page may run, is in the way, and polls are left.
 pub record MeetsOldLock (terms : Terms) (past : List Event) (cookie : ℕ) : Type 0 where
   pub content : terms.need ≢ Off
   pub earlier : List Event

@@ -16,9 +16,8 @@ use std::marker::Model;
 
 /// One page's visit to the state server. It says at each moment what to do next, and is told what
 /// was heard, how the page ended, and that the link was lost. Contracts tie it to its past, the
-/// list
-/// of these events: the calls lead from the empty past to a visit, and what it does is the rule of
-/// its past.
+/// list of these events: the calls lead from the empty past to a visit, and what it does is the
+/// rule of its past.
 #[derive(Debug, Drop)]
 pub struct Visit {
     request: Request,

@@ -8,9 +8,9 @@ returns-clause-ok g c =
     on_ok c.push_reply-written.result
     (λ is. sent g.K.Keeper.can_count c.args.t c.args.self.now _
     (state_of g.K.Keeper.told g.K.Keeper.count c.args.desk.now)
-    (state_of g.K.Keeper.told g.K.Keeper.count c.ask-reply.new.self) c.args.request
-    c.ask-reply.result _ c.heard.ensures.terms c.requires.acts
-    c.heard.ensures.past refl refl c.ask-reply.ensures.fits c.ask-reply.ensures.answers
+    (state_of g.K.Keeper.told g.K.Keeper.count c.answer-reply.new.desk) c.args.request
+    c.answer-reply.result _ c.heard.ensures.terms c.requires.acts
+    c.heard.ensures.past refl refl c.answer-reply.ensures.fits c.answer-reply.ensures.answers
     (turn-joined c.args.out.now.items c.push_ask.new.out.items c.push_reply-written.new.out.items _
     _ c.in_ok-push_ask.ensures.ok is))
     c.push_reply-written.ensures.ok
@@ -21,7 +21,7 @@ returns-clause-err g c =
     (λ number turns page stands desk_stands. inr
     (sent g.K.Keeper.can_count c.args.t c.args.self.now _
     (state_of g.K.Keeper.told g.K.Keeper.count c.args.desk.now)
-    (state_of g.K.Keeper.told g.K.Keeper.count c.ask-reply.new.self) c.args.request
-    c.ask-reply.result _ c.heard.ensures.terms c.requires.acts
-    c.heard.ensures.past refl refl c.ask-reply.ensures.fits c.ask-reply.ensures.answers tt number
+    (state_of g.K.Keeper.told g.K.Keeper.count c.answer-reply.new.desk) c.args.request
+    c.answer-reply.result _ c.heard.ensures.terms c.requires.acts
+    c.heard.ensures.past refl refl c.answer-reply.ensures.fits c.answer-reply.ensures.answers tt number
     turns page stands desk_stands))

@@ -1,0 +1,24 @@
+//! A request of a page, answered by the desk that all pages share.
+ghost use Rattle.std.specs.Prelude.{◌≡◌, ◌≤◌, ◌^◌, ℕ, List, [], ◌∷◌, ◌++◌};
+ghost use Rattle.asp_messages.specs.Ranges.{RequestFits, ReplyFits};
+ghost use Rattle.page_script.specs.World.{Turn};
+ghost use Rattle.page_script.specs.Standing.{DeskStands, state_of, turn_at};
+
+use asp_messages::{Reply, Request};
+use desk::Desk;
+use keeper::Keeper;
+
+/// Answers a request at the moment `t`, in milliseconds: behind the turns that the desk stands for,
+/// that of this request makes turns that it stands for.
+pub fn answer<K: Keeper>(desk: &mut Desk<K>, request: Request, t: u64) -> Reply
+    requires moment { t ≤ 2 ^ 62 }
+    requires request { RequestFits request }
+    ensures answers { (number : ℕ) (turns : List Turn)
+        → DeskStands K.can_count (state_of K.told K.count desk.old) turns
+        → DeskStands K.can_count (state_of K.told K.count desk.new)
+        (turns ++ turn_at number t request turns result (K.count desk.new.keeper) ∷ []) }
+    ensures fits { ReplyFits result }
+    ensures floor { K.floor desk.new.keeper ≡ K.floor desk.old.keeper }
+{
+    desk.act(request, t).reply
+}
