@@ -23,7 +23,7 @@ not_greater Less h = refl
 not_greater Equal h = refl
 not_greater Greater h = absurd (h refl)
 
-greater_not : (r : Ordering) → is_gt r ≡ false → r ≢ Greater
+pub greater_not : (r : Ordering) → is_gt r ≡ false → r ≢ Greater
 greater_not r h e = absurd (no_gt r h e)
   where
     no_gt : (r : Ordering) → is_gt r ≡ false → r ≡ Greater → ⊥

@@ -1,3 +1,4 @@
 pub mod PairLemmas
 pub mod MapLemmas
 pub mod DueLemmas
+pub mod OrderedLemmas

@@ -7,8 +7,8 @@ ghost use Rattle.keeper.specs.Due.{TellsDue};
 ghost use Rattle.keeper.specs.Items.{Sets};
 ghost use Rattle.keeper.specs.Pairs.{item_at};
 
-use crate::due::due;
 use crate::pairs::{cut, get, put};
+use crate::pairs_due::due;
 use crate::{KeepError, Keeper};
 use asp_base::Bytes;
 use session_machine::Item;

@@ -1,8 +1,8 @@
 use Rattle.std.proofs.Common.{subst, option_copied}
 use Rattle.keeper.specs.Pairs.{IsFirstOf}
 use Rattle.keeper.proofs.DueLemmas.{IsFirstPair-none, IsFirstPair-new, expired_if, not_by_test}
-use Rattle.keeper.proofs.due.sooner.Goals as goal
-use Rattle.keeper.proofs.due.sooner.Goals.{in_default-via-in-Some+else-comes_before, in_default-via-in_default}
+use Rattle.keeper.proofs.pairs_due.sooner.Goals as goal
+use Rattle.keeper.proofs.pairs_due.sooner.Goals.{in_default-via-in-Some+else-comes_before, in_default-via-in_default}
 
 pub returns-in_default : goal.returns-in_default
 returns-in_default c =

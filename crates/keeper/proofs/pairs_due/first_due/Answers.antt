@@ -3,7 +3,7 @@ use Rattle.std.proofs.lemmas.List.{take_more}
 use Rattle.session_machine.specs.declared.item.Item.{Item}
 use Rattle.keeper.specs.Pairs.{IsFirstOf}
 use Rattle.keeper.proofs.DueLemmas.{IsFirstOf-fits}
-use Rattle.keeper.proofs.due.first_due.Goals as goal
+use Rattle.keeper.proofs.pairs_due.first_due.Goals as goal
 
 pub loop-pair-preserved : goal.loop-pair-preserved
 loop-pair-preserved c =

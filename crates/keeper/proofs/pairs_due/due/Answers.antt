@@ -2,7 +2,7 @@ use Rattle.std.proofs.Common.{sym, ◌∙◌, subst}
 use Rattle.keeper.specs.Due.{IsFirstDue}
 use Rattle.keeper.specs.Pairs.{item_at}
 use Rattle.keeper.proofs.DueLemmas.{TellsDue-none, TellsDue-some}
-use Rattle.keeper.proofs.due.due.Goals as goal
+use Rattle.keeper.proofs.pairs_due.due.Goals as goal
 
 pub returns-in_ok-copy-in-Some-clause-due : goal.returns-in_ok-copy-in-Some-clause-due
 returns-in_ok-copy-in-Some-clause-due c =

@@ -1,0 +1,168 @@
+//! Items in the order of their keys, and the set of the moments at which they expire.
+ghost use Rattle.std.specs.Prelude.{◌≡◌, Some, None, IfOk, IfSome, IsOk, OnOk, OnErr};
+ghost use Rattle.asp_messages.specs.Ranges.{KeyFits};
+ghost use Rattle.session_machine.specs.Liveness as liveness;
+ghost use Rattle.keeper.specs.Due.{TellsDue};
+ghost use Rattle.keeper.specs.Items.{Sets};
+ghost use Rattle.keeper.specs.Ordered.{AllFit, IsKept, IsDueOf, item_of};
+
+use crate::dues::Due;
+use asp_base::{Bytes, NoMemory};
+use session_machine::{Item, expiry};
+use std::collections::{BTreeMap, BTreeSet};
+
+/// Another owner of the item's content, with the item's numbers.
+pub fn share(item: &Item) -> Result<Item, NoMemory>
+    ensures { IfOk result (λ other. other ≡ item.now) }
+{
+    Ok(Item {
+        body: item.body.share()?,
+        minutes: item.minutes,
+        fresh: item.fresh,
+        holder: item.holder,
+        touched: item.touched,
+    })
+}
+
+/// The item, of whose content `share` makes no copy.
+fn shared(item: Item) -> Result<Item, NoMemory>
+    ensures { IfOk result (λ other. other ≡ item) }
+{
+    Ok(Item {
+        body: item.body.into_shared()?,
+        minutes: item.minutes,
+        fresh: item.fresh,
+        holder: item.holder,
+        touched: item.touched,
+    })
+}
+
+/// The item of the key.
+pub fn get(items: &BTreeMap<Bytes, Item>, key: &Bytes) -> Result<Option<Item>, NoMemory>
+    requires { AllFit (item_of items.now.entries) }
+    ensures item { IfOk result (λ item. item ≡ item_of items.now.entries key.now) }
+    ensures fits { IfOk result (λ item. IfSome item liveness.ItemFits) }
+    ensures absent { item_of items.now.entries key.now ≡ None → IsOk result }
+{
+    match items.get(key) {
+        Some(item) => Ok(Some(share(item)?)),
+        None => Ok(None),
+    }
+}
+
+/// Gives a key that has an item another one. Only the set may want memory, which is had first.
+fn replace(
+    items: &mut BTreeMap<Bytes, Item>,
+    dues: &mut BTreeSet<Due>,
+    old: Due,
+    due: Due,
+    item: Item,
+) -> Result<(), NoMemory>
+    requires item { liveness.ItemFits item }
+    requires kept { IsKept items.old.entries dues.old }
+    requires old { IsDueOf (item_of items.old.entries) old }
+    requires due { due ≡ record { expiry = liveness.expiry item; key = old.key } }
+    ensures ok { OnOk result (Sets (item_of items.old.entries) (item_of items.new.entries) old.key (Some item)) }
+    ensures err { OnErr result (items.new.entries ≡ items.old.entries) }
+    ensures kept { IsKept items.new.entries dues.new }
+{
+    if old.expiry != due.expiry {
+        dues.insert(due)?;
+        dues.remove(&old);
+    }
+    items.insert(old.key, item)?;
+    Ok(())
+}
+
+/// Gives a key that has no item this one. What the map has taken is taken back where the set has no
+/// memory.
+fn add(
+    items: &mut BTreeMap<Bytes, Item>,
+    dues: &mut BTreeSet<Due>,
+    key: &Bytes,
+    item: Item,
+) -> Result<(), NoMemory>
+    requires key { KeyFits key.now }
+    requires item { liveness.ItemFits item }
+    requires kept { IsKept items.old.entries dues.old }
+    requires absent { item_of items.old.entries key.now ≡ None }
+    ensures ok { OnOk result (Sets (item_of items.old.entries) (item_of items.new.entries) key.now (Some item)) }
+    ensures err { OnErr result (items.new.entries ≡ items.old.entries) }
+    ensures kept { IsKept items.new.entries dues.new }
+{
+    let own = key.share()?;
+    let due = Due {
+        expiry: expiry(&item),
+        key: own.share()?,
+    };
+    items.insert(own, item)?;
+    if let Err(_) = dues.insert(due) {
+        items.remove(key);
+        return Err(NoMemory);
+    }
+    Ok(())
+}
+
+/// Gives the key this item.
+pub fn put(
+    items: &mut BTreeMap<Bytes, Item>,
+    dues: &mut BTreeSet<Due>,
+    key: &Bytes,
+    item: Item,
+) -> Result<(), NoMemory>
+    requires key { KeyFits key.now }
+    requires item { liveness.ItemFits item }
+    requires kept { IsKept items.old.entries dues.old }
+    ensures ok { OnOk result (Sets (item_of items.old.entries) (item_of items.new.entries) key.now (Some item)) }
+    ensures err { OnErr result (items.new.entries ≡ items.old.entries) }
+    ensures kept { IsKept items.new.entries dues.new }
+{
+    let item = shared(item)?;
+    match items.get_key_value(key) {
+        Some((own, there)) => {
+            let old = Due {
+                expiry: expiry(there),
+                key: own.share()?,
+            };
+            let due = Due {
+                expiry: expiry(&item),
+                key: own.share()?,
+            };
+            replace(items, dues, old, due, item)
+        }
+        None => add(items, dues, key, item),
+    }
+}
+
+/// Removes the item of the key, where it has one. It takes no memory, and copies nothing.
+pub fn cut(items: &mut BTreeMap<Bytes, Item>, dues: &mut BTreeSet<Due>, key: &Bytes)
+    requires { IsKept items.old.entries dues.old }
+    ensures cut { Sets (item_of items.old.entries) (item_of items.new.entries) key.now None }
+    ensures kept { IsKept items.new.entries dues.new }
+{
+    if let Some((own, item)) = items.remove_entry(key) {
+        let due = Due {
+            expiry: expiry(&item),
+            key: own,
+        };
+        dues.remove(&due);
+    }
+}
+
+/// The key whose item has expired at the moment `t` and expired first, the least key among those of
+/// one moment. Only the first of the set is looked at.
+pub fn due(
+    items: &BTreeMap<Bytes, Item>,
+    dues: &BTreeSet<Due>,
+    t: u64,
+) -> Result<Option<Bytes>, NoMemory>
+    requires { IsKept items.now.entries dues.now }
+    ensures due { IfOk result (TellsDue (Some (item_of items.now.entries)) t) }
+    ensures fits { IfOk result (λ key. IfSome key KeyFits) }
+    ensures none { TellsDue (Some (item_of items.now.entries)) t None → IsOk result }
+{
+    match dues.first() {
+        Some(first) if first.expiry <= t => Ok(Some(first.key.share()?)),
+        _ => Ok(None),
+    }
+}
