@@ -14,7 +14,8 @@ TellsItem None key item = ⊤
 TellsItem (Some items) key item = item ≡ items key
 
 -- where a keeper tells, it gave the key this item; it never begins or ends to tell
-abbrev pub TellsSets : Option (List ℕ → Option Item) → Option (List ℕ → Option Item) → List ℕ → Option Item → Type 0
+abbrev pub TellsSets : Option (List ℕ → Option Item) → Option (List ℕ → Option Item)
+    → List ℕ → Option Item → Type 0
 TellsSets None None key item = ⊤
 TellsSets None (Some new) key item = ⊥
 TellsSets (Some old) None key item = ⊥

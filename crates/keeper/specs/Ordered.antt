@@ -17,7 +17,8 @@ item_of entries key = lookup (is_at (slice_cmp nat_cmp key)) entries
 
 -- by the moment, and then by the key
 abbrev pub due_cmp : Due → Due → Ordering
-due_cmp due other = ordering_then (nat_cmp due.expiry other.expiry) (slice_cmp nat_cmp due.key other.key)
+due_cmp due other =
+    ordering_then (nat_cmp due.expiry other.expiry) (slice_cmp nat_cmp due.key other.key)
 
 -- there is an item, and it expires at this moment
 abbrev pub expires_at : Option Item → ℕ → Bool
@@ -26,7 +27,8 @@ expires_at (Some item) moment = nat_eq (expiry item) moment
 
 -- the set holds the moment and the key of each item of the map, and nothing else
 abbrev pub HoldsDues : (List ℕ → Option Item) → BTreeSet Due → Type 0
-HoldsDues items dues = (due : Due) → contains due_cmp dues due ≡ expires_at (items due.key) due.expiry
+HoldsDues items dues =
+    (due : Due) → contains due_cmp dues due ≡ expires_at (items due.key) due.expiry
 
 -- the map has an item of this key, which expires at this moment
 abbrev pub IsDueOf : (List ℕ → Option Item) → Due → Type 0

@@ -27,7 +27,8 @@ IsPlaceOf (pair ∷ pairs) key (suc n) = (bytes_eq key pair.0 ≡ false) × IsPl
 pub record IsFirstPair (pairs : List (List ℕ × Item)) (t : ℕ) (pair : List ℕ × Item) : Type 0 where
   pub there : Contains pairs pair
   pub expired : expiry pair.1 ≤ t
-  pub first : All (λ other. expiry other.1 ≤ t → ComesBefore (expiry pair.1) pair.0 (expiry other.1) other.0) pairs
+  pub first : All (λ other. expiry other.1 ≤ t
+      → ComesBefore (expiry pair.1) pair.0 (expiry other.1) other.0) pairs
 
 -- this pair is due, or no item has expired
 abbrev pub IsFirstOf : List (List ℕ × Item) → ℕ → Option (List ℕ × Item) → Type 0

@@ -13,8 +13,8 @@ use asp_base::Bytes;
 use session_machine::Item;
 use std::marker::Model;
 
-/// A keeper over another that fails the listed calls. Its calls of `get`, `put`, `cut` and `due` are
-/// numbered together, from 0.
+/// A keeper over another that fails the listed calls. Its calls of `get`, `put`, `cut` and `due`
+/// are numbered together, from 0.
 #[derive(Debug, Drop)]
 pub struct FaultyKeeper<K> {
     inner: K,
@@ -28,7 +28,12 @@ impl<K> Model for FaultyKeeper<K> {
 
     ghost Value = { Wrapped K };
 
-    ghost view = { λ k. record { inner = k.inner; calls = k.calls; fails = k.fails.items; faults = k.faults } };
+    ghost view = { λ k. record {
+      inner = k.inner;
+      calls = k.calls;
+      fails = k.fails.items;
+      faults = k.faults;
+    } };
 }
 
 impl<K> FaultyKeeper<K> {
@@ -51,7 +56,8 @@ impl<K> FaultyKeeper<K> {
         ensures inner { self.new.inner ≡ self.old.inner }
         ensures calls { self.new.calls ≡ one_more self.old.calls }
         ensures fails { self.new.fails ≡ self.old.fails }
-        ensures faults { self.new.faults ≡ (if result then one_more self.old.faults else self.old.faults) }
+        ensures faults { self.new.faults
+            ≡ (if result then one_more self.old.faults else self.old.faults) }
     {
         let call = self.calls;
         self.calls = call.saturating_add(1);
@@ -82,7 +88,8 @@ impl<K: Keeper> Keeper for FaultyKeeper<K> {
         ensures fits { IfOk result (λ item. IfSome item ItemFits) }
         ensures same { K.told self.new.inner ≡ K.told self.old.inner }
         ensures floor { K.floor self.new.inner ≡ K.floor self.old.inner }
-        ensures cause { HasKeepCause (all_faults self.old.faults (K.count self.old.inner)) (all_faults self.new.faults (K.count self.new.inner)) result }
+        ensures cause { HasKeepCause (all_faults self.old.faults (K.count self.old.inner))
+            (all_faults self.new.faults (K.count self.new.inner)) result }
         ensures failing { FailsListed K.count self.old self.new result }
     {
         if self.fails_next() {
@@ -94,10 +101,12 @@ impl<K: Keeper> Keeper for FaultyKeeper<K> {
     fn put(&mut self, key: &Bytes, item: Item) -> Result<(), KeepError>
         requires key { KeyFits key.now }
         requires item { ItemFits item }
-        ensures ok { OnOk result (TellsSets (K.told self.old.inner) (K.told self.new.inner) key.now (Some item)) }
+        ensures ok { OnOk result
+            (TellsSets (K.told self.old.inner) (K.told self.new.inner) key.now (Some item)) }
         ensures err { OnErr result (K.told self.new.inner ≡ K.told self.old.inner) }
         ensures floor { K.floor self.new.inner ≡ K.floor self.old.inner }
-        ensures cause { HasKeepCause (all_faults self.old.faults (K.count self.old.inner)) (all_faults self.new.faults (K.count self.new.inner)) result }
+        ensures cause { HasKeepCause (all_faults self.old.faults (K.count self.old.inner))
+            (all_faults self.new.faults (K.count self.new.inner)) result }
         ensures failing { FailsListed K.count self.old self.new result }
     {
         if self.fails_next() {
@@ -108,10 +117,12 @@ impl<K: Keeper> Keeper for FaultyKeeper<K> {
 
     fn cut(&mut self, key: &Bytes) -> Result<(), KeepError>
         requires { KeyFits key.now }
-        ensures ok { OnOk result (TellsSets (K.told self.old.inner) (K.told self.new.inner) key.now None) }
+        ensures ok { OnOk result
+            (TellsSets (K.told self.old.inner) (K.told self.new.inner) key.now None) }
         ensures err { OnErr result (K.told self.new.inner ≡ K.told self.old.inner) }
         ensures floor { K.floor self.new.inner ≡ K.floor self.old.inner }
-        ensures cause { HasKeepCause (all_faults self.old.faults (K.count self.old.inner)) (all_faults self.new.faults (K.count self.new.inner)) result }
+        ensures cause { HasKeepCause (all_faults self.old.faults (K.count self.old.inner))
+            (all_faults self.new.faults (K.count self.new.inner)) result }
         ensures failing { FailsListed K.count self.old self.new result }
     {
         if self.fails_next() {
@@ -125,7 +136,8 @@ impl<K: Keeper> Keeper for FaultyKeeper<K> {
         ensures fits { IfOk result (λ key. IfSome key KeyFits) }
         ensures same { K.told self.new.inner ≡ K.told self.old.inner }
         ensures floor { K.floor self.new.inner ≡ K.floor self.old.inner }
-        ensures cause { HasKeepCause (all_faults self.old.faults (K.count self.old.inner)) (all_faults self.new.faults (K.count self.new.inner)) result }
+        ensures cause { HasKeepCause (all_faults self.old.faults (K.count self.old.inner))
+            (all_faults self.new.faults (K.count self.new.inner)) result }
         ensures failing { FailsListed K.count self.old self.new result }
     {
         if self.fails_next() {

@@ -56,8 +56,8 @@ pub trait Keeper {
         ensures floor { floor self.new ≡ floor self.old }
         ensures cause { HasKeepCause (count self.old) (count self.new) result };
 
-    /// The key of the item that has expired at the moment `t` and expired first, the least key among
-    /// those of one moment; `None` where no item has expired.
+    /// The key of the item that has expired at the moment `t` and expired first, the least key
+    /// among those of one moment; `None` where no item has expired.
     fn due(&mut self, t: u64) -> Result<Option<Bytes>, KeepError>
         ensures due { IfOk result (TellsDue (told self.old) t) }
         ensures fits { IfOk result (λ key. IfSome key KeyFits) }

@@ -4,6 +4,7 @@
 mod dues;
 mod errors;
 mod faulty_keeper;
+mod items;
 mod keeping;
 mod list_keeper;
 mod map_keeper;

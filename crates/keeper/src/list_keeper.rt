@@ -69,7 +69,7 @@ impl Keeper for ListKeeper {
         ensures same { self.new ≡ self.old }
         ensures cause { HasKeepCause 0 0 result }
     {
-        Ok(get(self.alloc, &self.pairs, key)?)
+        Ok(get(&self.pairs, key)?)
     }
 
     // It takes no memory where the key has an item.

@@ -15,8 +15,9 @@ use std::alloc::Global;
 use std::collections::{BTreeMap, BTreeSet};
 use std::marker::Model;
 
-/// A keeper in memory whose calls take a time that grows with the logarithm of the count of keys. It
-/// never fails, but may want memory. Contracts see its pairs of key and item, in the order of the keys.
+/// A keeper in memory whose calls take a time that grows with the logarithm of the count of keys.
+/// It never fails, but may want memory. Contracts see its pairs of key and item, in the order of
+/// the keys.
 #[derive(Debug, Drop)]
 pub struct MapKeeper {
     items: BTreeMap<Bytes, Item>,

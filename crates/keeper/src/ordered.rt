@@ -7,35 +7,10 @@ ghost use Rattle.keeper.specs.Items.{Sets};
 ghost use Rattle.keeper.specs.Ordered.{AllFit, IsKept, IsDueOf, item_of};
 
 use crate::dues::Due;
+use crate::items::{into_shared, share};
 use asp_base::{Bytes, NoMemory};
 use session_machine::{Item, expiry};
 use std::collections::{BTreeMap, BTreeSet};
-
-/// Another owner of the item's content, with the item's numbers.
-pub fn share(item: &Item) -> Result<Item, NoMemory>
-    ensures { IfOk result (λ other. other ≡ item.now) }
-{
-    Ok(Item {
-        body: item.body.share()?,
-        minutes: item.minutes,
-        fresh: item.fresh,
-        holder: item.holder,
-        touched: item.touched,
-    })
-}
-
-/// The item, of whose content `share` makes no copy.
-fn shared(item: Item) -> Result<Item, NoMemory>
-    ensures { IfOk result (λ other. other ≡ item) }
-{
-    Ok(Item {
-        body: item.body.into_shared()?,
-        minutes: item.minutes,
-        fresh: item.fresh,
-        holder: item.holder,
-        touched: item.touched,
-    })
-}
 
 /// The item of the key.
 pub fn get(items: &BTreeMap<Bytes, Item>, key: &Bytes) -> Result<Option<Item>, NoMemory>
@@ -62,7 +37,8 @@ fn replace(
     requires kept { IsKept items.old.entries dues.old }
     requires old { IsDueOf (item_of items.old.entries) old }
     requires due { due ≡ record { expiry = liveness.expiry item; key = old.key } }
-    ensures ok { OnOk result (Sets (item_of items.old.entries) (item_of items.new.entries) old.key (Some item)) }
+    ensures ok { OnOk result
+        (Sets (item_of items.old.entries) (item_of items.new.entries) old.key (Some item)) }
     ensures err { OnErr result (items.new.entries ≡ items.old.entries) }
     ensures kept { IsKept items.new.entries dues.new }
 {
@@ -86,7 +62,8 @@ fn add(
     requires item { liveness.ItemFits item }
     requires kept { IsKept items.old.entries dues.old }
     requires absent { item_of items.old.entries key.now ≡ None }
-    ensures ok { OnOk result (Sets (item_of items.old.entries) (item_of items.new.entries) key.now (Some item)) }
+    ensures ok { OnOk result
+        (Sets (item_of items.old.entries) (item_of items.new.entries) key.now (Some item)) }
     ensures err { OnErr result (items.new.entries ≡ items.old.entries) }
     ensures kept { IsKept items.new.entries dues.new }
 {
@@ -113,11 +90,12 @@ pub fn put(
     requires key { KeyFits key.now }
     requires item { liveness.ItemFits item }
     requires kept { IsKept items.old.entries dues.old }
-    ensures ok { OnOk result (Sets (item_of items.old.entries) (item_of items.new.entries) key.now (Some item)) }
+    ensures ok { OnOk result
+        (Sets (item_of items.old.entries) (item_of items.new.entries) key.now (Some item)) }
     ensures err { OnErr result (items.new.entries ≡ items.old.entries) }
     ensures kept { IsKept items.new.entries dues.new }
 {
-    let item = shared(item)?;
+    let item = into_shared(item)?;
     match items.get_key_value(key) {
         Some((own, there)) => {
             let old = Due {

@@ -5,6 +5,7 @@ ghost use Rattle.keeper.specs.Pairs.{IsMap, IsPlaceOf, item_at};
 ghost use Rattle.asp_messages.specs.Ranges.{KeyFits};
 ghost use Rattle.session_machine.specs.Liveness.{ItemFits};
 
+use crate::items::share;
 use asp_base::{Bytes, NoMemory};
 use session_machine::Item;
 use std::alloc::Global;
@@ -21,28 +22,15 @@ fn find<'a>(pairs: &'a [(Bytes, Item)], key: &Bytes) -> Option<&'a Item>
     None
 }
 
-/// A copy of the item, its content too.
-fn copy(alloc: Global, item: &Item) -> Result<Item, NoMemory>
-    ensures { IfOk result (λ copy. copy ≡ item.now) }
-{
-    Ok(Item {
-        body: Bytes::copy(alloc, item.body.as_slice())?,
-        minutes: item.minutes,
-        fresh: item.fresh,
-        holder: item.holder,
-        touched: item.touched,
-    })
-}
-
-/// A copy of the item of the key.
-pub fn get(alloc: Global, pairs: &[(Bytes, Item)], key: &Bytes) -> Result<Option<Item>, NoMemory>
+/// The item of the key, which stays where it is.
+pub fn get(pairs: &[(Bytes, Item)], key: &Bytes) -> Result<Option<Item>, NoMemory>
     requires { IsMap pairs.now }
     ensures item { IfOk result (λ item. item ≡ item_at pairs.now key.now) }
     ensures fits { IfOk result (λ item. IfSome item ItemFits) }
     ensures absent { item_at pairs.now key.now ≡ None → IsOk result }
 {
     match find(pairs, key) {
-        Some(item) => Ok(Some(copy(alloc, item)?)),
+        Some(item) => Ok(Some(share(item)?)),
         None => Ok(None),
     }
 }
@@ -69,7 +57,8 @@ pub fn put(
     requires map { IsMap pairs.old.items }
     requires key { KeyFits key.now }
     requires item { ItemFits item }
-    ensures ok { OnOk result (Sets (item_at pairs.old.items) (item_at pairs.new.items) key.now (Some item)) }
+    ensures ok { OnOk result
+        (Sets (item_at pairs.old.items) (item_at pairs.new.items) key.now (Some item)) }
     ensures err { OnErr result (pairs.new.items ≡ pairs.old.items) }
     ensures there { IsSome (item_at pairs.old.items key.now) → IsOk result }
     ensures map { IsMap pairs.new.items }

@@ -14,15 +14,16 @@ use std::alloc::Global;
 fn comes_before(pair: &(Bytes, Item), other: &(Bytes, Item)) -> bool
     requires item { liveness.ItemFits pair.now.1 }
     requires other { liveness.ItemFits other.now.1 }
-    ensures { IsTrue result ↔ ComesBefore (liveness.expiry pair.now.1) pair.now.0 (liveness.expiry other.now.1) other.now.0 }
+    ensures { IsTrue result ↔ ComesBefore (liveness.expiry pair.now.1) pair.now.0
+        (liveness.expiry other.now.1) other.now.0 }
 {
     let expires = expiry(&pair.1);
     let later = expiry(&other.1);
     expires < later || (expires == later && pair.0.cmp(&other.0).is_le())
 }
 
-/// The one of both that is to be removed first at the moment `t`, where one has expired; `first` has
-/// expired already.
+/// The one of both that is to be removed first at the moment `t`, where one has expired; `first`
+/// has expired already.
 fn sooner<'a>(
     first: Option<&'a (Bytes, Item)>,
     pair: &'a (Bytes, Item),
@@ -30,7 +31,8 @@ fn sooner<'a>(
 ) -> Option<&'a (Bytes, Item)>
     requires pair { liveness.ItemFits pair.now.1 }
     requires first { IfSome (option_copied first) (λ best. liveness.ItemFits best.1) }
-    ensures { (before : List (List ℕ × Item)) → IsFirstOf before t (option_copied first.entry) → IsFirstOf (before ++ pair.now ∷ []) t (option_copied result) }
+    ensures { (before : List (List ℕ × Item)) → IsFirstOf before t (option_copied first.entry)
+        → IsFirstOf (before ++ pair.now ∷ []) t (option_copied result) }
 {
     if live(&pair.1, t) {
         return first;
@@ -41,8 +43,8 @@ fn sooner<'a>(
     }
 }
 
-/// The pair whose item has expired at the moment `t` and expired first, the least key among those of
-/// one moment.
+/// The pair whose item has expired at the moment `t` and expired first, the least key among those
+/// of one moment.
 fn first_due(pairs: &[(Bytes, Item)], t: u64) -> Option<&(Bytes, Item)>
     requires { IsMap pairs.now }
     ensures { IsFirstOf pairs.now t (option_copied result) }
@@ -54,8 +56,8 @@ fn first_due(pairs: &[(Bytes, Item)], t: u64) -> Option<&(Bytes, Item)>
     first
 }
 
-/// A copy of the key of the item that has expired at the moment `t` and expired first, the least key
-/// among those of one moment.
+/// A copy of the key of the item that has expired at the moment `t` and expired first, the least
+/// key among those of one moment.
 pub fn due(alloc: Global, pairs: &[(Bytes, Item)], t: u64) -> Result<Option<Bytes>, NoMemory>
     requires { IsMap pairs.now }
     ensures due { IfOk result (TellsDue (Some (item_at pairs.now)) t) }

@@ -14,7 +14,8 @@ returns-clause-cut c =
     let pairs = c.args.pairs.now.items in
     let key = c.args.key.now in
     let kept : c.retain.new.self.items ≡ filter (λ pair. not (bytes_eq pair.0 key)) pairs =
-    filter_same _ (λ pair. not (bytes_eq pair.0 key)) _ (λ x r f' k. search rules) _ _ c.retain.ensures.filtered in
+    filter_same _ (λ pair. not (bytes_eq pair.0 key)) _ (λ x r f' k. search rules) _ _
+    c.retain.ensures.filtered in
     subst (λ t. Sets (item_at pairs) (item_at t) key None) (sym kept) (Sets-cut pairs key)
 
 pub returns-clause-map : goal.returns-clause-map
@@ -22,6 +23,7 @@ returns-clause-map c =
     let pairs = c.args.pairs.now.items in
     let key = c.args.key.now in
     let kept : c.retain.new.self.items ≡ filter (λ pair. not (bytes_eq pair.0 key)) pairs =
-    filter_same _ (λ pair. not (bytes_eq pair.0 key)) _ (λ x r f' k. search rules) _ _ c.retain.ensures.filtered in
+    filter_same _ (λ pair. not (bytes_eq pair.0 key)) _ (λ x r f' k. search rules) _ _
+    c.retain.ensures.filtered in
     let keeps : List ℕ × Item → Bool = λ pair. not (bytes_eq pair.0 key) in
     subst (λ t. IsMap t) (sym kept) (IsMap-filter pairs keeps c.requires)

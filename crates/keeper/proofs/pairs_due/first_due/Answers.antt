@@ -11,9 +11,12 @@ loop-pair-preserved c =
     let i = c.loop-pair.pair-index in
     let pair = c.pair-item.result in
     let more : take (i + 1) pairs ≡ take i pairs ++ pair ∷ [] =
-    take_more pairs i pair c.loop-pair-test.true ∙ ap (λ (p : List ℕ × Item). take i pairs ++ p ∷ []) (sym c.pair-item.is) in
-    subst (λ front. IsFirstOf front c.args.t (option_copied c.sooner-first.result)) (sym more) (c.sooner-first.ensures (take i pairs) c.loop-pair.invariant)
+    take_more pairs i pair c.loop-pair-test.true
+    ∙ ap (λ (p : List ℕ × Item). take i pairs ++ p ∷ []) (sym c.pair-item.is) in
+    subst (λ front. IsFirstOf front c.args.t (option_copied c.sooner-first.result)) (sym more)
+    (c.sooner-first.ensures (take i pairs) c.loop-pair.invariant)
 
 pub sooner-first-requires-clause-first : goal.sooner-first-requires-clause-first
 sooner-first-requires-clause-first c =
-    IsFirstOf-fits c.args.pairs.now c.loop-pair.pair-index c.args.t (option_copied c.loop-pair.first) c.requires c.loop-pair.invariant
+    IsFirstOf-fits c.args.pairs.now c.loop-pair.pair-index c.args.t
+    (option_copied c.loop-pair.first) c.requires c.loop-pair.invariant

@@ -11,6 +11,9 @@ returns-in_default c =
     let expired = expired_if pair.1 t c.if-live.ensures in
     elim c.in_default.branch [
       | in_default-via-in-Some+else-comes_before w ↦ (λ before was.
-          IsFirstPair-new before t w.in-Some.best.now pair (subst (λ f. IsFirstOf before t (option_copied f)) w.in-Some.is was) expired (not_by_test w.comes_before.result w.comes_before.ensures w.if-comes_before.false))
-      | in_default-via-in_default w ↦ (λ before was. IsFirstPair-none before t pair (subst (λ f. IsFirstOf before t (option_copied f)) w.in_default.is was) expired)
+          IsFirstPair-new before t w.in-Some.best.now pair
+          (subst (λ f. IsFirstOf before t (option_copied f)) w.in-Some.is was) expired
+          (not_by_test w.comes_before.result w.comes_before.ensures w.if-comes_before.false))
+      | in_default-via-in_default w ↦ (λ before was. IsFirstPair-none before t pair
+          (subst (λ f. IsFirstOf before t (option_copied f)) w.in_default.is was) expired)
     ]

@@ -8,5 +8,7 @@ pub returns-in_err-due-clause-none : goal.returns-in_err-due-clause-none
 returns-in_err-due-clause-none c =
     let at : c.args.self.now ≡ c.deref.result.now = sym (c.deref.ensures.value ∙ c.self.view_is) in
     λ none.
-    let ok : false ≡ true = c.in_err-due.ensures.none (subst (λ (pairs : List (List ℕ × Item)). TellsDue (Some (item_at pairs)) c.args.t None) at none) in
+    let ok : false ≡ true = c.in_err-due.ensures.none
+    (subst (λ (pairs : List (List ℕ × Item)). TellsDue (Some (item_at pairs)) c.args.t None) at
+    none) in
     absurd (cc)

@@ -6,6 +6,7 @@ use Rattle.keeper.proofs.map_keeper.MapKeeperKeeper.due.Goals as goal
 
 pub returns-in_err-due-clause-none : goal.returns-in_err-due-clause-none
 returns-in_err-due-clause-none c = λ none.
-    let told = subst (λ (entries : List (List ℕ × Item)). TellsDue (Some (item_of entries)) c.args.t None) (sym c.self.view_is) none in
+    let told = subst (λ (entries : List (List ℕ × Item)). TellsDue (Some (item_of entries)) c.args.t
+    None) (sym c.self.view_is) none in
     let ok : false ≡ true = c.in_err-due.ensures.none told in
     absurd (cc)
