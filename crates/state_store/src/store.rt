@@ -1,0 +1,238 @@
+//! The store and its calls.
+ghost use Rattle.std.specs.Prelude.{◌≡◌, ◌≤◌, All, length};
+ghost use Rattle.turnstile.specs.Turns.{first_place_of};
+
+use crate::desk::Desk;
+use crate::fresh::{FreshShards, open_shards};
+use crate::sweep::sweep_shard;
+use crate::turn::ask_turn;
+use crate::{Answer, Pass, Roll, SweepCount, SweepEnd, shard_of};
+use asp_base::{Gate, NoMemory};
+use asp_messages::{Reply, Request};
+use cookie_source::{CookieSource, FreshCookies};
+use keeper::Keeper;
+use std::alloc::Global;
+use std::sync::{Arc, Wait};
+use turnstile::{Stands, Turnstile};
+
+/// Sessions that threads share, in 1 to 64 shards. Each shard is behind a turnstile of its own.
+#[derive(Drop)]
+pub struct Store<K: Keeper>
+where
+    Desk<K>: Stands,
+{
+    turnstiles: Vec<Turnstile<Desk<K>>>,
+    first_place: u64,
+    ghost one_first_place: { All (λ turns. first_place_of turns ≡ first_place) turnstiles.items },
+    ghost shards: { (1 ≤ length turnstiles.items) × (length turnstiles.items ≤ 64) },
+}
+
+/// A new store and the only roll that it will ever have.
+#[derive(Drop)]
+pub struct FreshStore<K: Keeper>
+where
+    Desk<K>: Stands,
+{
+    pub store: Store<K>,
+    pub roll: Roll<K>,
+}
+
+impl<K: Keeper + Drop> Store<K> {
+    ghost use Rattle.std.specs.Prelude.{ℕ, ◌<◌, ◌≢◌, ◌↔◌, ◌^◌, ◌-◌, ◌+◌, [], IfOk, IsErr, IfSome, IfNone, IsNone};
+    ghost use Rattle.asp_messages.specs.Ranges.{RequestFits, ReplyFits};
+    ghost use Rattle.session_machine.specs.History.{nothing};
+    ghost use Rattle.lock_laws.specs.Laws.{LocksHold};
+    ghost use Rattle.turnstile.specs.Rule.{end_of_places};
+    ghost use Rattle.state_store.specs.Turns.{AlwaysTells, IsAsked, FindsNoPlace, Meets};
+    ghost use Rattle.state_store.specs.Sweep.{Sweeps};
+    ghost use Rattle.state_store.specs.Fresh.{IsNewKeeper};
+    ghost use Rattle.state_store.specs.Passes.{shards_of, first_place as store_first_place, shard_for, caller_of, passes_of, view_in, view_for, call_of, IsPassOf, IsRollOf};
+
+    /// A store with a shard for each of 1 to 64 keepers, whose cookies go from `first_cookie` to
+    /// `last_cookie`, and whose places begin with `first_place` in each shard; and its roll. After
+    /// `NoMemory` the keepers are dropped.
+    pub fn new<R>(
+        rt: &R,
+        alloc: Global,
+        keepers: Vec<K>,
+        first_cookie: u64,
+        last_cookie: u64,
+        first_place: u64,
+    ) -> Result<FreshStore<K>, NoMemory>
+        requires shards { (1 ≤ length keepers.items) × (length keepers.items ≤ 64) }
+        requires keepers { All (IsNewKeeper K.told K.count) keepers.items }
+        requires positive { 1 ≤ first_cookie }
+        requires some { first_cookie ≤ last_cookie }
+        requires in_range { last_cookie < 2 ^ 63 }
+        requires place { first_place ≤ end_of_places }
+        ensures shards { IfOk result (λ f. shards_of f.store ≡ length keepers.items) }
+        ensures place { IfOk result (λ f. store_first_place f.store ≡ first_place) }
+        ensures roll { IfOk result (λ f. IsRollOf f.store f.roll) }
+        ensures no_pass { IfOk result (λ f. passes_of f.roll ≡ 0) }
+    {
+        let fresh = CookieSource::new(rt, alloc, first_cookie, last_cookie, keepers.len() as u64)?;
+        let FreshCookies { source, drawers } = fresh;
+        let Ok(source) = Arc::new(alloc, source) else {
+            return Err(NoMemory);
+        };
+        let shards = open_shards(rt, alloc, keepers, &source, drawers, first_place)?;
+        let FreshShards { turnstiles, rolls } = shards;
+        Ok(FreshStore {
+            store: Store {
+                turnstiles,
+                first_place,
+            },
+            roll: Roll { rolls, made: 0 },
+        })
+    }
+
+    /// A pass with the next caller number, from 0, which knows of no entry. After `NoMemory` the
+    /// roll is unchanged.
+    pub fn pass<R>(&self, rt: &R, alloc: Global, roll: &mut Roll<K>) -> Result<Pass<K>, NoMemory>
+        requires roll { IsRollOf self.now roll.old }
+        requires numbers_left { passes_of roll.old < 2 ^ 63 - 1 }
+        ensures roll { IsRollOf self.now roll.new }
+        ensures made { IfOk result (λ _. passes_of roll.new ≡ passes_of roll.old + 1) }
+        ensures pass { IfOk result (IsPassOf self.now) }
+        ensures number { IfOk result (λ pass. caller_of pass ≡ passes_of roll.old) }
+        ensures knows_nothing { IfOk result (λ pass. (shard : ℕ)
+            → ((view_in pass shard).front ≡ []) × ((view_in pass shard).own ≡ [])) }
+        ensures unchanged { IsErr result → roll.new ≡ roll.old }
+    {
+        let mut passes = Vec::with_capacity(alloc, self.turnstiles.len())?;
+        for at in 0..self.turnstiles.len() {
+            let part = self.turnstiles[at].pass(rt, &mut roll.rolls[at]);
+            passes.push_reserved(part);
+        }
+        let caller = roll.made;
+        roll.made += 1;
+        Ok(Pass { passes, caller })
+    }
+
+    /// Answers a request at the moment `t`, in milliseconds, at most 2^62, in one turn of the shard
+    /// of its key, and so leaves one entry in that shard's history. It waits for its turn only.
+    ///
+    /// `PlacesOut` is answered exactly where the shard's ticket word stood at the end of places,
+    /// and then nothing changes; `CookiesOut` exactly where an acquire drew no cookie;
+    /// `KeeperFault` only where the keeper's count of faults rose.
+    pub fn ask<R: Wait, G: Gate>(
+        &self,
+        rt: &R,
+        pass: &mut Pass<K>,
+        request: Request,
+        t: u64,
+        gate: &G,
+    ) -> Answer
+        requires pass { IsPassOf self.now pass.old }
+        requires request { RequestFits request }
+        requires moment { t ≤ 2 ^ 62 }
+        ensures pass { IsPassOf self.now pass.new }
+        ensures caller { caller_of pass.new ≡ caller_of pass.old }
+        ensures fits { ReplyFits result.reply }
+        ensures asked { IfSome result.place (IsAsked (call_of self.now pass.old t) request
+            (view_for self.now pass.old request.key) (view_for self.now pass.new request.key)
+            result.reply) }
+        ensures locks { AlwaysTells K.told → (shard : ℕ)
+            → LocksHold nothing 0 (view_in pass.new shard).front }
+        ensures others { (shard : ℕ) → shard ≢ shard_for self.now request.key
+            → view_in pass.new shard ≡ view_in pass.old shard }
+        ensures no_place { IfNone result.place (FindsNoPlace
+            (view_for self.now pass.old request.key) (view_for self.now pass.new request.key)) }
+        ensures places_out { IsNone result.place ↔ (result.reply ≡ Reply.PlacesOut) }
+        ensures spent { IsNone result.place
+            ↔ ((view_for self.now pass.new request.key).ticket ≡ end_of_places) }
+        ensures stays_spent { (view_for self.now pass.old request.key).ticket ≡ end_of_places
+            → IsNone result.place }
+        ensures never_falls { (shard : ℕ)
+            → (view_in pass.old shard).ticket ≤ (view_in pass.new shard).ticket }
+    {
+        let shard = shard_of(request.key.as_slice(), self.turnstiles.len() as u64);
+        let at = shard as usize;
+        ask_turn(
+            rt,
+            &self.turnstiles[at],
+            &mut pass.passes[at],
+            shard,
+            request,
+            t,
+            gate,
+        )
+    }
+
+    /// Removes what has expired at the moment `t`, in milliseconds, at most 2^62, shard by shard
+    /// and one item a turn. It leaves a shard where nothing was left, or after 1,000 removals; a
+    /// fault, want of memory and want of a place end it at once.
+    pub fn sweep<R: Wait, G: Gate>(
+        &self,
+        rt: &R,
+        pass: &mut Pass<K>,
+        t: u64,
+        gate: &G,
+    ) -> SweepCount
+        requires pass { IsPassOf self.now pass.old }
+        requires moment { t ≤ 2 ^ 62 }
+        ensures pass { IsPassOf self.now pass.new }
+        ensures caller { caller_of pass.new ≡ caller_of pass.old }
+        ensures sweeps { Sweeps K.told (call_of self.now pass.old t) (shards_of self.now)
+            (view_in pass.old) (view_in pass.new) result }
+        ensures locks { AlwaysTells K.told → (shard : ℕ)
+            → LocksHold nothing 0 (view_in pass.new shard).front }
+        ensures never_falls { (shard : ℕ)
+            → (view_in pass.old shard).ticket ≤ (view_in pass.new shard).ticket }
+    {
+        let mut removed = 0;
+        let mut end = SweepEnd::Clear;
+        for at in 0..self.turnstiles.len() {
+            let part = sweep_shard(
+                rt,
+                &self.turnstiles[at],
+                &mut pass.passes[at],
+                at as u64,
+                t,
+                gate,
+            );
+            removed += part.removed;
+            if !part.end.goes_on() {
+                return SweepCount {
+                    removed,
+                    end: part.end,
+                };
+            }
+            end = end.and(part.end);
+        }
+        SweepCount { removed, end }
+    }
+
+    /// Both passes then know of every shard what the one knew that knew more of it.
+    pub fn meet<R>(&self, rt: &R, a: &mut Pass<K>, b: &mut Pass<K>)
+        requires a { IsPassOf self.now a.old }
+        requires b { IsPassOf self.now b.old }
+        ensures a { IsPassOf self.now a.new × (caller_of a.new ≡ caller_of a.old) }
+        ensures b { IsPassOf self.now b.new × (caller_of b.new ≡ caller_of b.old) }
+        ensures meets { (shard : ℕ) → Meets (view_in a.old shard) (view_in b.old shard)
+            (view_in a.new shard) (view_in b.new shard) }
+        ensures locks { AlwaysTells K.told → (shard : ℕ)
+            → LocksHold nothing 0 (view_in a.new shard).front }
+    {
+        for at in 0..self.turnstiles.len() {
+            self.turnstiles[at].meet(rt, &mut a.passes[at], &mut b.passes[at]);
+        }
+    }
+
+    /// Uses up the roll. Each caller that the pass knows of is one of the passes that it made.
+    pub fn seal<R>(&self, rt: &R, roll: Roll<K>, pass: &mut Pass<K>)
+        requires roll { IsRollOf self.now roll }
+        requires pass { IsPassOf self.now pass.old }
+        ensures pass { IsPassOf self.now pass.new }
+        ensures caller { caller_of pass.new ≡ caller_of pass.old }
+        ensures callers { (shard : ℕ)
+            → All (λ e. e.caller < passes_of roll) (view_in pass.new shard).front }
+        ensures same { (shard : ℕ) → view_in pass.new shard ≡ view_in pass.old shard }
+    {
+        let Roll { mut rolls, made: _ } = roll;
+        while let Some(part) = rolls.pop() {
+            let at = rolls.len();
+            self.turnstiles[at].seal(rt, part, &mut pass.passes[at]);
+        }
+    }
+}
