@@ -27,6 +27,7 @@ unfinished CanCount n seed sink told now cookies list asked = record {
   looks = [];
   made = asked.made;
   removed = tt;
+  few = omega arith;
   stands = subst (λ (l : List Entry). StandsFor nothing 0 l told now) (sym same) asked.desk.stands;
   counts = subst (λ (l : List Entry). AllByRecursion (λ e. CanCount e.faults) l) (sym same)
       asked.desk.counts;
@@ -52,6 +53,7 @@ finished CanCount n seed removed status sink sink' told now cookies counts list 
       looks = swept.looks;
       made = made.3.made;
       removed = swept.expired;
+      few = swept.few;
       stands = swept.desk.stands;
       counts = swept.desk.counts;
       ends = by_status writes;

@@ -1,5 +1,5 @@
 -- The sweep goes on by one look.
-use Rattle.std.proofs.Common.{◌≡◌, ℕ, ◌+◌, List, [], ◌∷◌, ◌++◌, Option, None, refl, sym, arith, subst, inl, inr, append_assoc, append-nil, length-append}
+use Rattle.std.proofs.Common.{◌≡◌, ℕ, ◌+◌, ◌<◌, List, [], ◌∷◌, ◌++◌, Option, None, refl, sym, arith, subst, inl, inr, append_assoc, append-nil, length-append}
 use Rattle.asp_base.specs.declared.bytes.Bytes.{Bytes}
 use Rattle.asp_base.specs.Moments.{last_moment}
 use Rattle.cookie_source.specs.Counting.{Counter}
@@ -71,14 +71,15 @@ pub Sweeps-look : (CanCount : ℕ → Type 0) (first most : ℕ) (list : List En
     → (before : Removes CanCount first list told now cookies removed)
     → DeskStandsFor CanCount first nothing 0 ((list ++ before.removals)
     ++ swept_entry 0 last_moment s now' ∷ []) told' now' cookies'
-    → IsUnmoved s → (s ≡ swept.Nothing → TellsDue told' last_moment None)
+    → IsUnmoved s → (s ≡ swept.Nothing → TellsDue told' last_moment None) → removed < most
     → Sweeps CanCount first most list told' now' cookies' removed
 Sweeps-look CanCount first most list told told' now now' cookies cookies' removed s before stand
-    unmoved none = record {
+    unmoved none left = record {
       removals = before.removals;
       looks = entry ∷ [];
       expired = before.expired;
       counted = before.counted;
+      few = let counted = before.counted in omega (arith, counted, left);
       desk = stand;
       ends = inr (look_ends told' s now' unmoved none);
     }
@@ -95,6 +96,7 @@ Sweeps-all CanCount first most list told now cookies removed before all = record
   looks = [];
   expired = before.expired;
   counted = before.counted;
+  few = let counted = before.counted in omega (arith, counted, all);
   desk = subst (λ (l : List Entry). DeskStandsFor CanCount first nothing 0 l told now cookies)
       (sym (append-nil (list ++ before.removals))) before.desk;
   ends = inl (refl, all);

@@ -1,5 +1,5 @@
 -- A load: its requests, the sweep behind them, and what is written of both.
-use Rattle.std.specs.Prelude.{◌≡◌, ◌⊎◌, ℕ, ◌==◌, List, [], ◌∷◌, ◌++◌, length, count_by, codes, decimal, Option, None, ⊤}
+use Rattle.std.specs.Prelude.{◌≡◌, ◌⊎◌, ℕ, ◌==◌, ◌+◌, ◌≤◌, List, [], ◌∷◌, ◌++◌, length, count_by, codes, decimal, Option, None, ⊤}
 use Rattle.std.specs.List.{AllByRecursion}
 use Rattle.asp_base.specs.Moments.{last_moment}
 use Rattle.asp_base.specs.Outside.{Takes, TakesFront}
@@ -73,7 +73,7 @@ EndsLoad n status sink sink' told requests removals looks =
     ⊎ ((status ≡ 6) × (sink' ≡ sink)))
 
 -- A load of n requests: the requests by the generator's numbers, then items that expired, and a
--- last look. The keeper that is handed back has the items and the count after these entries.
+-- last look, by one look more than requests at most. The keeper that is handed back has the items and the count after these entries.
 -- (CanCount says which counts of faults the keeper's type can have; told and faults are what the
 -- keeper tells and counts then.)
 pub record IsLoad (CanCount : ℕ → Type 0) (n seed : ℕ) (sink sink' : Option (List ℕ))
@@ -83,6 +83,7 @@ pub record IsLoad (CanCount : ℕ → Type 0) (n seed : ℕ) (sink sink' : Optio
   pub looks : List Entry
   pub made : AreMade (seeded seed) 0 requests
   pub removed : AllByRecursion IsRemoval removals
+  pub few : length removals + length looks ≤ n + 1
   pub stands : StandsFor nothing 0 (requests ++ removals ++ looks) told faults
   pub counts : AllByRecursion (λ e. CanCount e.faults) (requests ++ removals ++ looks)
   pub ends : EndsLoad n status sink sink' told requests removals looks

@@ -1,5 +1,5 @@
 -- A load under way.
-use Rattle.std.specs.Prelude.{◌≡◌, ◌⊎◌, ℕ, List, [], ◌++◌, length, Option}
+use Rattle.std.specs.Prelude.{◌≡◌, ◌⊎◌, ℕ, ◌+◌, ◌≤◌, List, [], ◌++◌, length, Option}
 use Rattle.std.specs.List.{AllByRecursion}
 use Rattle.cookie_source.specs.Counting.{Counter}
 use Rattle.desk.specs.Standing.{DeskStandsFor}
@@ -24,6 +24,7 @@ pub record Sweeps (CanCount : ℕ → Type 0) (first most : ℕ) (list : List En
   pub looks : List Entry
   pub expired : AllByRecursion IsRemoval removals
   pub counted : length removals ≡ removed
+  pub few : length removals + length looks ≤ most
   pub desk : DeskStandsFor CanCount first nothing 0 (list ++ removals ++ looks) told now cookies
   pub ends : ((looks ≡ []) × (removed ≡ most)) ⊎ EndsSweep told looks
 

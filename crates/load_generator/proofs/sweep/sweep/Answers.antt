@@ -46,7 +46,7 @@ returns-in_default g c = record {
       c.loop-removed.removed c.sweep_one.result before
       (c.sweep_one.ensures.stands first 0 nothing 0 (list ++ before.removals) (omega arith)
       before.desk) (not_removed c.sweep_one.result c.in_default.not-Removed)
-      c.sweep_one.ensures.nothing;
+      c.sweep_one.ensures.nothing c.loop-removed-test.true;
   floor = c.sweep_one.ensures.floor ∙ c.loop-removed.invariant.floor;
 }
 
