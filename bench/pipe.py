@@ -1,10 +1,12 @@
 #!/usr/bin/env python3
 """Measures `asp_state pipe` on streams of requests, and beside it another program for the same job, where one is given.
 
-usage: bench/pipe.py [PROGRAM]
+usage: bench/pipe.py [--long] [PROGRAM]
 
 PROGRAM reads requests on standard input and writes replies on standard output under the words START STEP FIRST; it is run in
-the same run as ./asp_state, by turns, and must write the same bytes. Each case is run five times; the median is printed.
+the same run as ./asp_state, by turns, and must write the same bytes. Each case is run five times; the median is printed, with the
+time a message, and where a case keeps many items the greatest resident memory for each byte of their keys and bodies. --long adds
+the streams over 1,000,000 keys, once each.
 Outside the gate; nothing of it is promised.
 """
 import hashlib
@@ -35,13 +37,53 @@ def large_messages(count):
         yield b"PUT /l%d HTTP/1.1\r\nTimeout: 20\r\nContent-Length: %d\r\n\r\n" % (k % 10, len(body)) + body
 
 
+def keyed_messages(count, keys, size):
+    """A write and a read of each key by turns, in no order of the keys, which have 30 bytes."""
+    body = b"z" * size
+    for k in range(count // 2):
+        key = b"/k%028d" % ((k * 7919) % keys)
+        yield b"PUT %s HTTP/1.1\r\nHost: web\r\nTimeout: 20\r\nContent-Length: %d\r\n\r\n" % (key, size) + body
+        yield b"GET %s HTTP/1.1\r\nHost: web\r\n\r\n" % key
+
+
+class Case:
+    """A stream: its name, how many messages it has, what makes them, and the bytes of keys and bodies that are kept, where it says so."""
+
+    def __init__(self, name, count, messages, kept=None):
+        self.name = name
+        self.count = count
+        self.messages = messages
+        self.kept = kept
+
+
+def small(name, count, keys):
+    return Case(name, count, lambda: small_messages(count, keys))
+
+
+def large(name, count):
+    return Case(name, count, lambda: large_messages(count))
+
+
+def keyed(name, count, keys, size):
+    return Case(name, count, lambda: keyed_messages(count, keys, size), keys * (30 + size))
+
+
 CASES = [
-    ("200,000 messages, 1,000 keys, 100 bytes", lambda: small_messages(200_000, 1000)),
-    ("100,000 messages, 1,000 keys, 100 bytes", lambda: small_messages(100_000, 1000)),
-    ("200,000 messages, one key, 100 bytes", lambda: small_messages(200_000, 1)),
-    ("100,000 messages, one key, 100 bytes", lambda: small_messages(100_000, 1)),
-    ("200 messages, ten keys, 1 MiB", lambda: large_messages(200)),
-    ("100 messages, ten keys, 1 MiB", lambda: large_messages(100)),
+    small("200,000 messages, 1,000 keys, 100 bytes", 200_000, 1000),
+    small("100,000 messages, 1,000 keys, 100 bytes", 100_000, 1000),
+    small("200,000 messages, one key, 100 bytes", 200_000, 1),
+    small("100,000 messages, one key, 100 bytes", 100_000, 1),
+    large("200 messages, ten keys, 1 MiB", 200),
+    large("100 messages, ten keys, 1 MiB", 100),
+    keyed("200,000 messages, 1,000 keys of 30 bytes, 100 bytes", 200_000, 1000, 100),
+    keyed("200,000 messages, 100,000 keys of 30 bytes, 100 bytes", 200_000, 100_000, 100),
+    keyed("20,000 messages, 1,000 keys of 30 bytes, 1 KiB", 20_000, 1000, 1 << 10),
+    keyed("2,000 messages, 100 keys of 30 bytes, 64 KiB", 2000, 100, 1 << 16),
+]
+
+LONG_CASES = [
+    keyed("2,000,000 messages, 1,000,000 keys of 30 bytes, 100 bytes", 2_000_000, 1_000_000, 100),
+    keyed("2,000,000 messages, 1,000,000 keys of 30 bytes, 1 KiB", 2_000_000, 1_000_000, 1 << 10),
 ]
 
 
@@ -62,30 +104,44 @@ def run(command, path):
         return took, usage.ru_maxrss / 1024, digest.digest()
 
 
+def measure(case, programs, rounds):
+    with tempfile.NamedTemporaryFile() as text:
+        for message in case.messages():
+            text.write(message)
+        text.flush()
+        size = os.path.getsize(text.name) / 1e6
+        results = {label: [] for label, _ in programs}
+        written = {}
+        for _ in range(rounds):
+            for label, command in programs:
+                took, memory, replies = run(command, text.name)
+                results[label].append((took, memory))
+                written[label] = replies
+    same = len(set(written.values())) == 1
+    print("%s, %.1f MB%s" % (case.name, size, "" if same else " (the replies differ)"))
+    for label, _ in programs:
+        took = sorted(t for t, _ in results[label])[rounds // 2]
+        memory = max(m for _, m in results[label])
+        line = "  %-12s %7.3f s  %8.1f MB/s  %7.0f ns a message  %7.1f MiB" % (
+            label, took, size / took, took / case.count * 1e9, memory)
+        if case.kept is not None and case.kept > 10_000_000:
+            line += "  %5.2f bytes for each kept" % (memory * 1048576 / case.kept)
+        print(line)
+
+
 def main():
+    words = sys.argv[1:]
+    long = "--long" in words
+    others = [word for word in words if word != "--long"]
     subprocess.run([os.path.join(TOP, "asp_state"), "id", "0" * 30], check=True, stdout=subprocess.DEVNULL)
     programs = [("asp_state", [os.path.join(TOP, "crates/asp_state/out/asp_state"), "pipe", "0", "1", "1"])]
-    if len(sys.argv) > 1:
-        programs.append((os.path.basename(sys.argv[1]), [sys.argv[1], "0", "1", "1"]))
-    for name, messages in CASES:
-        with tempfile.NamedTemporaryFile() as text:
-            for message in messages():
-                text.write(message)
-            text.flush()
-            size = os.path.getsize(text.name) / 1e6
-            results = {label: [] for label, _ in programs}
-            written = {}
-            for _ in range(ROUNDS):
-                for label, command in programs:
-                    took, memory, replies = run(command, text.name)
-                    results[label].append((took, memory))
-                    written[label] = replies
-            same = len(set(written.values())) == 1
-            print("%s, %.1f MB%s" % (name, size, "" if same else " (the replies differ)"))
-            for label, _ in programs:
-                took = sorted(t for t, _ in results[label])[ROUNDS // 2]
-                memory = max(m for _, m in results[label])
-                print("  %-12s %7.3f s  %8.1f MB/s  %7.1f MiB" % (label, took, size / took, memory))
+    if others:
+        programs.append((os.path.basename(others[0]), [others[0], "0", "1", "1"]))
+    for case in CASES:
+        measure(case, programs, ROUNDS)
+    if long:
+        for case in LONG_CASES:
+            measure(case, programs, 1)
 
 
 if __name__ == "__main__":
