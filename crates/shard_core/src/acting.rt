@@ -15,14 +15,14 @@ use keeper::{KeepError, Keeper};
 use session_machine::{Change, Item, Kind, decide};
 use std::alloc::Global;
 
-/// The reply of this kind. The content of `Found` is copied.
-fn reply(alloc: Global, kind: Kind, item: Option<&Item>) -> Result<Reply, NoMemory>
+/// The reply of this kind. `Found` has the content of the item in common with it.
+fn reply(kind: Kind, item: Option<&Item>) -> Result<Reply, NoMemory>
     ensures { IfOk result (λ reply. reply ≡ reply_of kind (option_copied item.entry)) }
 {
     match kind {
         Kind::Found { cookie, first } => match item {
             Some(item) => Ok(Reply::Found {
-                body: Bytes::copy(alloc, item.body.as_slice())?,
+                body: item.body.share()?,
                 minutes: item.minutes,
                 cookie: named(cookie),
                 first,
@@ -158,7 +158,7 @@ pub fn act_on<K: Keeper>(
         Err(error) => return refusal(error),
     };
     let verdict = decide(item.as_ref(), t, &request, drawn);
-    let reply = match reply(alloc, verdict.kind, item.as_ref()) {
+    let reply = match reply(verdict.kind, item.as_ref()) {
         Ok(reply) => reply,
         Err(NoMemory) => return Reply::NoMemory,
     };
