@@ -1,23 +1,20 @@
 -- A sweep of one shard, look by look.
-use Rattle.std.proofs.Common.{◌≡◌, ℕ, ◌+◌, ◌<◌, ◌≤◌, List, [], ◌∷◌, ◌++◌, Option, length, length-append, refl, sym, ap, ◌∙◌, arith, subst}
+use Rattle.std.proofs.Common.{◌≡◌, ℕ, ◌+◌, ◌<◌, List, [], ◌∷◌, ◌++◌, Option, length-append, refl, sym, ap, ◌∙◌, arith, subst}
 use Rattle.std.proofs.lemmas.List.{append_assoc, append-nil}
-use Rattle.std.specs.List.{AllByRecursion}
 use mathlib.Core.List.{IsPrefix}
 use Rattle.asp_messages.specs.declared.reply.Reply.TheVariants as replies
 use Rattle.session_machine.specs.declared.entry.Entry.{Entry}
 use Rattle.session_machine.specs.declared.entry.Deed.{Deed}
 use Rattle.session_machine.specs.declared.entry.Deed.TheVariants.{Looked}
 use Rattle.session_machine.specs.declared.item.Item.{Item}
-use Rattle.session_machine.specs.History.{item_after, nothing}
 use Rattle.session_machine.proofs.HistoryLemmas.{All-push}
 use Rattle.shard_core.specs.declared.shard.Swept.{Swept}
 use Rattle.shard_core.specs.declared.shard.Swept.TheVariants as swept
 use Rattle.shard_core.specs.Sweeping.{swept_entry, swept_deed, swept_reply}
 use Rattle.turnstile.specs.Rule.{end_of_places}
-use Rattle.state_store.specs.declared.sweep.SweepCount.{SweepCount}
 use Rattle.state_store.specs.declared.sweep.SweepEnd.{SweepEnd}
 use Rattle.state_store.specs.declared.sweep.SweepEnd.TheVariants as ends
-use Rattle.state_store.specs.Turns.{View, Call, AlwaysTells, NothingDue, IsLook, FindsNoPlace}
+use Rattle.state_store.specs.Turns.{View, Call, IsLook, FindsNoPlace}
 use Rattle.state_store.specs.Sweep.{sweep_entry, IsRemoval, Removals, EndsWithLook, EndsShard, SweepsShard, most_removals}
 
 prefix_self : {A : Type 0} (xs : List A) → IsPrefix xs xs

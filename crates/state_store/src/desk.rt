@@ -123,10 +123,10 @@ impl<K: Keeper> Desk<K> {
         ensures stands { (first caller : ℕ) (list : List AnEntry)
             → caller < 2 ^ 63 → first + length list < end_of_places
             → DeskStands K.can_count first list
-                (K.told self.old.shard) (K.count self.old.shard) (drawn_at self.old)
+            (K.told self.old.shard) (K.count self.old.shard) (drawn_at self.old)
             → DeskStands K.can_count first
-                (list ++ asked_entry caller t request result.drawn result.reply result.faults ∷ [])
-                (K.told self.new.shard) (K.count self.new.shard) (drawn_at self.new) }
+            (list ++ asked_entry caller t request result.drawn result.reply result.faults ∷ [])
+            (K.told self.new.shard) (K.count self.new.shard) (drawn_at self.new) }
     {
         let drawn = self.draw_for(rt, &request.ask);
         let reply = self.shard.act(request, t, drawn);
@@ -147,10 +147,10 @@ impl<K: Keeper> Desk<K> {
         ensures stands { (first caller : ℕ) (list : List AnEntry)
             → caller < 2 ^ 63 → first + length list < end_of_places
             → DeskStands K.can_count first list
-                (K.told self.old.shard) (K.count self.old.shard) (drawn_at self.old)
+            (K.told self.old.shard) (K.count self.old.shard) (drawn_at self.old)
             → DeskStands K.can_count first
-                (list ++ swept_entry caller t result.found result.faults ∷ [])
-                (K.told self.new.shard) (K.count self.new.shard) (drawn_at self.new) }
+            (list ++ swept_entry caller t result.found result.faults ∷ [])
+            (K.told self.new.shard) (K.count self.new.shard) (drawn_at self.new) }
         ensures nothing { result.found ≡ Swept.Nothing → TellsDue (K.told self.old.shard) t None }
         ensures fault { result.found ≡ Swept.KeeperFault
             → Rose (K.count self.old.shard) result.faults }

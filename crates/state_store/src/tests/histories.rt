@@ -91,7 +91,10 @@ fn the_last_place_is_given_once(rt: HostRuntime) -> Result<(), Fail> {
         place: None,
     };
     let first = write(alloc, b'a', 20)?;
-    assert_eq!(rt; store.ask(&rt, &mut pass, first, 0, &OpenGate), done(last_place));
+    assert_eq!(rt;
+        store.ask(&rt, &mut pass, first, 0, &OpenGate),
+        done(last_place)
+    );
     let second = write(alloc, b'a', 20)?;
     assert_eq!(rt; store.ask(&rt, &mut pass, second, 0, &OpenGate), out);
     let swept = SweepCount {

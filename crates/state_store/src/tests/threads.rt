@@ -107,7 +107,14 @@ fn add_often<K: Keeper + Drop, R: Wait>(
 {
     for _ in 0..ADDITIONS_EACH {
         let (cookie, number) = acquire(rt, alloc, store, &mut pass)?;
-        set(rt, alloc, store, &mut pass, number.wrapping_add(1), Some(cookie))?;
+        set(
+            rt,
+            alloc,
+            store,
+            &mut pass,
+            number.wrapping_add(1),
+            Some(cookie),
+        )?;
     }
     Some(pass)
 }

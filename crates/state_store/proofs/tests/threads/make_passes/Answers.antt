@@ -1,4 +1,4 @@
-use Rattle.std.proofs.Common.{◌≡◌, All, arith, subst, sym}
+use Rattle.std.proofs.Common.{All, arith, subst, sym}
 use Rattle.std.proofs.lemmas.List.Elements.{All-push}
 use Rattle.state_store.specs.Passes.{IsPassOf}
 use Rattle.state_store.proofs.tests.threads.make_passes.Goals as goal
