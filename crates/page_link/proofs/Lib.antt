@@ -1,0 +1,5 @@
+pub mod HearingLemmas
+pub mod LinkLemmas
+pub mod RuleLemmas
+pub mod TurnLemmas
+pub mod VisitLemmas

@@ -1,0 +1,39 @@
+-- What the calls of a link do to what it tells: the bytes sent, and the bytes still to be received.
+use Rattle.std.specs.Prelude.{◌≡◌, ℕ, ◌≤◌, List, ◌++◌, length, take, Option, Some, None, Result, MatchResult, IfOk, ⊤}
+use Rattle.asp_base.specs.Outside.{IsAtEnd}
+
+-- these bytes are sent: the link tells nothing, or they go behind those sent
+abbrev pub Sends : Option (List ℕ × List ℕ) → Option (List ℕ × List ℕ) → List ℕ → Type 0
+Sends None None bytes = ⊤
+Sends None (Some new) bytes = ⊥
+Sends (Some old) None bytes = ⊥
+Sends (Some old) (Some new) bytes = (new.0 ≡ old.0 ++ bytes) × (new.1 ≡ old.1)
+
+-- a front of the piece is sent
+abbrev pub SendsFront : Option (List ℕ × List ℕ) → Option (List ℕ × List ℕ) → List ℕ → Type 0
+SendsFront old new piece = (n : ℕ) × (n ≤ length piece) × Sends old new (take n piece)
+
+-- these bytes are received: the link tells nothing, or they come from the front of those still to
+-- be received
+abbrev pub Receives : Option (List ℕ × List ℕ) → Option (List ℕ × List ℕ) → List ℕ → Type 0
+Receives None None bytes = ⊤
+Receives None (Some new) bytes = ⊥
+Receives (Some old) None bytes = ⊥
+Receives (Some old) (Some new) bytes = (new.0 ≡ old.0) × (old.1 ≡ bytes ++ new.1)
+
+-- `receive(buf)` put the next n bytes into the front of the buffer, none only at the end, and took
+-- nothing at `Err`
+pub record IsReceipt {E : Type 0} (old new : Option (List ℕ × List ℕ)) (result : Result ℕ E)
+    (buf : List ℕ) : Type 0 where
+  pub count : IfOk result (λ n. n ≤ length buf)
+  pub bytes : MatchResult result (λ n. Receives old new (take n buf)) (λ _. new ≡ old)
+  pub end : IfOk result (λ n. n ≡ 0 → IsAtEnd new)
+
+-- over several calls these bytes are sent, and these received
+abbrev pub Exchanges : Option (List ℕ × List ℕ) → Option (List ℕ × List ℕ) → List ℕ → List ℕ
+    → Type 0
+Exchanges None None sent received = ⊤
+Exchanges None (Some new) sent received = ⊥
+Exchanges (Some old) None sent received = ⊥
+Exchanges (Some old) (Some new) sent received = (new.0 ≡ old.0 ++ sent)
+    × (old.1 ≡ received ++ new.1)

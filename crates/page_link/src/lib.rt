@@ -1,0 +1,22 @@
+//! One page's visit over a link to the state server: requests are written, answers are read, and
+//! the visit's pauses are kept, until it comes to its end.
+#![tactic(auto)]
+
+mod client;
+mod exchange;
+mod hearing;
+mod link;
+mod memory_link;
+mod tcp_link;
+mod turn;
+mod visit_end;
+mod visiting;
+
+pub use link::Link;
+pub use memory_link::MemoryLink;
+pub use tcp_link::TcpLink;
+pub use visit_end::VisitEnd;
+pub use visiting::run_visit;
+
+#[cfg(test)]
+mod tests;
