@@ -1,0 +1,123 @@
+//! Bytes that are held, and read only by calls that count.
+ghost use Rattle.std.specs.Prelude.{◌≡◌, ◌<◌, ◌≤◌, ◌+◌, ◌++◌, [], length, take, drop, slice_index, IfOk, IsOk, OnOk, OnErr};
+
+use crate::{Bytes, NoMemory, Steps};
+use std::alloc::Global;
+use std::marker::Model;
+use std::mem::replace;
+use std::sync::ledger::Ledger;
+
+/// The least length of a body that `split` takes with the vector that it lies in, in bytes.
+const LARGE: u64 = 16_384;
+
+/// Bytes that are added at the end and taken off the front. Contracts see those that are held. They
+/// can be read only by calls that count each byte that they read.
+#[derive(Debug, Drop)]
+pub struct Held {
+    alloc: Global,
+    bytes: Vec<u8>,
+    start: usize,
+}
+
+impl Model for Held {
+    ghost use Rattle.std.specs.Prelude.{List, ℕ, ◌≤◌, length, drop};
+
+    ghost Value = { List ℕ };
+
+    ghost view = { λ h. drop h.start h.bytes.items };
+
+    ghost invariant = { λ h. h.start ≤ length h.bytes.items };
+}
+
+/// Drops the bytes before `start`, where there are any. It takes no memory, and costs the bytes from
+/// `start` on.
+fn compact(bytes: &mut Vec<u8>, start: &mut usize)
+    requires { start.old ≤ length bytes.old.items }
+    ensures start { start.new ≡ 0 }
+    ensures bytes { bytes.new.items ≡ drop start.old bytes.old.items }
+{
+    if *start > 0 {
+        bytes.drain(..*start);
+        *start = 0;
+    }
+}
+
+impl Held {
+    /// No bytes. It takes no memory.
+    pub fn new(alloc: Global) -> Held
+        ensures { result ≡ [] }
+    {
+        Held {
+            alloc,
+            bytes: Vec::new(alloc),
+            start: 0,
+        }
+    }
+
+    /// Adds a piece. What is held moves once after something was taken. The only error is want of
+    /// memory, and nothing has changed then.
+    pub fn add(&mut self, piece: &[u8]) -> Result<(), NoMemory>
+        ensures ok { OnOk result (self.new ≡ self.old ++ piece.now) }
+        ensures err { OnErr result (self.new ≡ self.old) }
+    {
+        compact(&mut self.bytes, &mut self.start);
+        self.bytes.extend_from_slice(piece)?;
+        Ok(())
+    }
+
+    /// How many bytes are held.
+    pub fn len(&self) -> u64
+        ensures { result ≡ length self.now }
+    {
+        (self.bytes.len() - self.start) as u64
+    }
+
+    /// The byte at place `at`, from 0. It counts one step.
+    pub fn look<L: Ledger>(&self, at: u64, steps: &mut Steps<L>) -> u8
+        requires { at < length self.now }
+        ensures byte { result ≡ slice_index self.now at }
+        ensures steps { steps.new ≡ steps.old + 1 }
+    {
+        steps.add(1);
+        self.bytes[self.start + at as usize]
+    }
+
+    /// The first `n` bytes. It counts `n` steps.
+    pub fn front<L: Ledger>(&self, n: u64, steps: &mut Steps<L>) -> &[u8]
+        requires { n ≤ length self.now }
+        ensures bytes { result.now ≡ take n self.now }
+        ensures steps { steps.new ≡ steps.old + n }
+    {
+        steps.add(n);
+        &self.bytes[self.start..self.start + n as usize]
+    }
+
+    /// Takes `head` bytes and then `body` bytes off the front, and gives the latter. It counts no step.
+    /// A large body is not copied: it keeps the memory in which it came, and what is left gets its own.
+    /// The only error is want of memory, never where `body` is 0, and nothing has changed then.
+    pub fn split(&mut self, head: u64, body: u64) -> Result<Bytes, NoMemory>
+        requires { head + body ≤ length self.old }
+        ensures body { IfOk result (λ bytes. bytes ≡ take body (drop head self.old)) }
+        ensures left { OnOk result (self.new ≡ drop (head + body) self.old) }
+        ensures err { OnErr result (self.new ≡ self.old) }
+        ensures no_body { body ≡ 0 → IsOk result }
+    {
+        let mut from = self.start + head as usize;
+        let to = from + body as usize;
+        if body == 0 {
+            self.start = to;
+            return Ok(Bytes::adopt(Vec::new(self.alloc)));
+        }
+        if body < LARGE {
+            let bytes = Bytes::copy(self.alloc, &self.bytes[from..to])?;
+            self.start = to;
+            return Ok(bytes);
+        }
+        let left = Vec::from_slice(self.alloc, &self.bytes[to..])?;
+        let mut bytes = replace(&mut self.bytes, left);
+        self.start = 0;
+        compact(&mut bytes, &mut from);
+        bytes.truncate(body as usize);
+        Ok(Bytes::adopt(bytes))
+    }
+}
