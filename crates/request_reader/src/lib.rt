@@ -2,7 +2,8 @@
 //! cut.
 #![tactic(auto)]
 
-mod first_message;
+mod kind;
+mod parts;
 mod reader;
 mod request;
 
