@@ -9,6 +9,11 @@ pub record Held : Type 0 where
   pub is_broken : Bool
   pub may_feed : Bool
 
+-- A reader with what it spent on the message that it holds: how often it looked at a byte.
+pub record Reading : Type 0 where
+  pub bytes : Held
+  pub spent : ℕ
+
 -- the most bytes of a piece
 abbrev pub most_piece : ℕ
 most_piece = 16384
@@ -23,7 +28,11 @@ empty_reader = record { held = []; is_broken = false; may_feed = true }
 
 -- with one piece more; a broken reader keeps nothing
 abbrev pub fed : Held → List ℕ → Held
-fed old piece = record { held = if old.is_broken then [] else old.held ++ piece; is_broken = old.is_broken; may_feed = false }
+fed old piece = record {
+  held = if old.is_broken then [] else old.held ++ piece;
+  is_broken = old.is_broken;
+  may_feed = false;
+}
 
 -- that waits for more bytes
 abbrev pub waiting : Held → Held
@@ -34,7 +43,8 @@ abbrev pub broken : Held
 broken = record { held = []; is_broken = true; may_feed = true }
 
 -- Bytes that spell a message were taken from the front of those held, and nothing else changed.
-pub record TakesMessage {M : Type 0} (Spells : List ℕ → M → Type 0) (old new : Held) (m : M) : Type 0 where
+pub record TakesMessage {M : Type 0} (Spells : List ℕ → M → Type 0) (old new : Held) (m : M)
+    : Type 0 where
   pub front : List ℕ
   pub spells : Spells front m
   pub held : old.held ≡ front ++ new.held

@@ -43,8 +43,8 @@ pub fn find_field<'a>(buf: &'a [u8], headers: &[HeaderSpan], name: &[u8]) -> Sta
     found
 }
 
-/// The number of a field that may be absent: `default` then, and `None` where it stands twice, is no
-/// number, or is out of the range from `least` to `most`.
+/// The number of a field that may be absent: `default` then, and `None` where it stands twice, is
+/// no number, or is out of the range from `least` to `most`.
 pub fn number_or(default: u64, least: u64, most: u64, field: Standing) -> Option<u64>
     ensures { result ≡ fields.number_or default least most (standing_of field.entry) }
 {
@@ -62,8 +62,8 @@ fn at_least(least: u64, number: Option<u64>) -> Option<u64>
     if least <= number { Some(number) } else { None }
 }
 
-/// The number of a field that is needed: `None` where it is absent, stands twice, is no number, or is
-/// above `most`.
+/// The number of a field that is needed: `None` where it is absent, stands twice, is no number, or
+/// is above `most`.
 pub fn number_needed(most: u64, field: Standing) -> Option<u64>
     ensures { result ≡ fields.number_needed most (standing_of field.entry) }
 {

@@ -1,9 +1,13 @@
-//! What the readers of requests and of replies share: the fields of a head, and the bytes that a
-//! reader holds.
+//! What the readers of requests and of replies share: the fields of a head, where a head ends, and
+//! a reader of messages of any kind.
 #![tactic(auto)]
 
 mod fields;
-mod held_bytes;
+mod head_end;
+mod kind;
+mod reader;
 
 pub use fields::{Standing, body_length, find_field, lock_cookie, number_needed, number_or};
-pub use held_bytes::{HeldBytes, MOST_HEAD, MOST_HELD, MOST_PIECE};
+pub use head_end::MOST_HEAD;
+pub use kind::MessageKind;
+pub use reader::{Found, MOST_HELD, MOST_PIECE, MessageReader};

@@ -1,2 +1,3 @@
-pub mod FirstReply
+pub mod Replies
+pub mod ReplyLaws
 pub mod ReplyNext

@@ -1,12 +1,29 @@
--- A fact of the message that a reader gave.
-use Rattle.std.specs.Prelude.{⊤}
-use Rattle.asp_messages.specs.ReplySpelling.{Answer, reply, strange}
+-- What a reader of replies answers.
+use Rattle.std.specs.Prelude.{◌≡◌, ℕ, ◌+◌, ◌≤◌, ◌*◌, length, ⊤}
+use Rattle.asp_messages.specs.ReplySpelling.{Answer, reply, strange, SpellsReply}
+use Rattle.message_framing.specs.Held.{Reading, TakesMessage}
 use Rattle.reply_reader.specs.declared.reader.ReplyNext.{ReplyNext}
 use Rattle.reply_reader.specs.declared.reader.ReplyNext.TheVariants as nexts
 
+-- a fact of the message that a reader gave
 abbrev pub IfMessage : ReplyNext → (Answer → Type 0) → Type 0
 IfMessage (nexts.Reply r) P = P (reply r)
 IfMessage (nexts.Strange status) P = P (strange status)
 IfMessage nexts.More P = ⊤
 IfMessage nexts.Broken P = ⊤
 IfMessage nexts.NoMemory P = ⊤
+
+-- a fact where a reader gave no message
+abbrev pub UnlessMessage : ReplyNext → Type 0 → Type 0
+UnlessMessage (nexts.Reply r) P = ⊤
+UnlessMessage (nexts.Strange status) P = ⊤
+UnlessMessage nexts.More P = P
+UnlessMessage nexts.Broken P = P
+UnlessMessage nexts.NoMemory P = P
+
+-- A message was taken from the front of the bytes held, and each byte of its head was looked at
+-- twice, with those looks that were spent on it before.
+pub record TakesCounted (old new : Reading) (ticks : ℕ) (answer : Answer) : Type 0 where
+  pub taken : TakesMessage SpellsReply old.bytes new.bytes answer
+  pub counted : ticks + old.spent ≤ 2 * length taken.spells.framed.front
+  pub forgotten : new.spent ≡ 0

@@ -2,7 +2,8 @@
 //! cut.
 #![tactic(auto)]
 
-mod first_reply;
+mod kind;
+mod parts;
 mod reader;
 mod reply;
 

@@ -1,18 +1,22 @@
 //! A reader of replies.
-ghost use Rattle.std.specs.Prelude.{◌⊎◌, ◌≡◌, ◌≤◌, ◌↔◌, [], length, IsTrue, IsFalse, OnOk, OnErr};
+ghost use Rattle.std.specs.Prelude.{◌⊎◌, ◌≡◌, ◌≤◌, ◌+◌, ◌-◌, ◌↔◌, [], length, IsTrue, IsFalse, OnOk, OnErr};
 ghost use Rattle.asp_messages.specs.Fields.{response_fields};
 ghost use Rattle.asp_messages.specs.Head.{IsReplyHead};
 ghost use Rattle.asp_messages.specs.ReplySpelling.{SpellsReply};
 ghost use Rattle.asp_messages.specs.Stream.{HasNoMessage, IsHopeless, IsWaiting};
+ghost use Rattle.message_framing.specs.Framed.{SpendsWithin};
 ghost use Rattle.message_framing.specs.Held.{empty_reader, fed, waiting, broken, most_held, most_piece, TakesMessage};
-ghost use Rattle.reply_reader.specs.ReplyNext.{IfMessage};
+ghost use Rattle.reply_reader.specs.ReplyNext.{IfMessage, UnlessMessage, TakesCounted};
 
-use crate::first_reply::{First, first_reply};
-use asp_base::NoMemory;
+use crate::kind::Replies;
+use crate::parts::ReplyMessage;
+use asp_base::{NoMemory, Steps};
 use asp_messages::Reply;
-use message_framing::HeldBytes;
+use message_framing::{Found, MessageReader};
 use std::alloc::Global;
+use std::fmt;
 use std::marker::Model;
+use std::sync::ledger::Ledger;
 
 /// What a reader answers when it is asked for the next reply.
 #[derive(Debug, Drop)]
@@ -28,96 +32,133 @@ pub enum ReplyNext {
     More,
     /// The bytes can never become a message; the reader is broken for good.
     Broken,
-    /// There was no memory for the reply; nothing has changed.
+    /// There was no memory for the reply; the bytes held are as they were.
     NoMemory,
 }
 
 /// A reader of replies from the pieces of a stream. It never holds more than 4,218,880 bytes.
-#[derive(Debug, Drop)]
+#[derive(Drop)]
 pub struct ReplyReader {
-    alloc: Global,
-    held: HeldBytes,
+    reader: MessageReader<Replies>,
 }
 
 impl Model for ReplyReader {
-    ghost use Rattle.message_framing.specs.Held.{Held};
+    ghost use Rattle.message_framing.specs.Held.{Reading};
 
-    ghost Value = { Held };
+    ghost Value = { Reading };
 
-    ghost view = { λ r. r.held };
+    ghost view = { λ r. r.reader };
+}
+
+impl fmt::Debug for ReplyReader {
+    fn fmt<W: fmt::Write>(&self, f: &mut fmt::Formatter<W>) -> fmt::Result {
+        f.write_str("ReplyReader")
+    }
 }
 
 impl ReplyReader {
     /// A reader that was fed nothing. It takes no memory.
     pub fn new(alloc: Global) -> ReplyReader
-        ensures { result ≡ empty_reader }
+        ensures { result ≡ record { bytes = empty_reader; spent = 0 } }
     {
         ReplyReader {
-            alloc,
-            held: HeldBytes::new(alloc),
+            reader: MessageReader::new(alloc),
         }
     }
 
-    /// Adds a piece of at most 16,384 bytes to those held; a broken reader keeps nothing. The caller
-    /// has heard `More` or `Broken` since the last piece. After `NoMemory` nothing has changed.
+    /// Adds a piece of at most 16,384 bytes to those held; a broken reader keeps nothing. The
+    /// caller has heard `More` or `Broken` since the last piece. After `NoMemory` nothing has
+    /// changed.
     pub fn feed(&mut self, piece: &[u8]) -> Result<(), NoMemory>
         requires piece { length piece.now ≤ most_piece }
-        requires may_feed { IsTrue self.old.may_feed }
-        ensures ok { OnOk result (self.new ≡ fed self.old piece.now) }
+        requires may_feed { IsTrue self.old.bytes.may_feed }
+        ensures ok { OnOk result (self.new.bytes ≡ fed self.old.bytes piece.now) }
         ensures err { OnErr result (self.new ≡ self.old) }
-        ensures bound { length self.new.held ≤ most_held }
+        ensures spent { self.new.spent ≡ self.old.spent }
+        ensures bound { length self.new.bytes.held ≤ most_held }
     {
-        self.held.feed(piece)
+        self.reader.feed(piece)
     }
 
-    /// The first message of the bytes held, which are taken: a reply, or the status of a message that
-    /// is none.
-    pub fn next(&mut self) -> ReplyNext
-        ensures message { IfMessage result (TakesMessage SpellsReply self.old self.new) }
+    /// How often a byte of the message that is held was looked at: at most twice the bytes held,
+    /// and twice 8,192.
+    pub fn spent(&self) -> u64
+        ensures { result ≡ self.now.spent }
+    {
+        self.reader.spent()
+    }
+
+    /// The first message of the bytes held, which are taken. `steps` counts each look at a byte.
+    pub fn next_counted<L: Ledger>(&mut self, steps: &mut Steps<L>) -> ReplyNext
+        ensures message { IfMessage result (TakesCounted self.old self.new
+            (steps.new - steps.old)) }
+        ensures rises { steps.old ≤ steps.new }
+        ensures growth { UnlessMessage result
+            (steps.new + self.old.spent ≡ steps.old + self.new.spent) }
 
         // No message is whole, and there is room for more bytes.
-        ensures more { result ≡ ReplyNext.More → self.new ≡ waiting self.old }
-        ensures none_whole { result ≡ ReplyNext.More → HasNoMessage SpellsReply self.old.held }
-        ensures waits { result ≡ ReplyNext.More → IsWaiting IsReplyHead response_fields self.old.held }
+        ensures more { result ≡ ReplyNext.More → self.new.bytes ≡ waiting self.old.bytes }
+        ensures none_whole { result ≡ ReplyNext.More
+            → HasNoMessage SpellsReply self.old.bytes.held }
+        ensures waits { result ≡ ReplyNext.More
+            → IsWaiting IsReplyHead response_fields self.old.bytes.held }
 
         // No bytes can follow that make a message, and the reader stays broken.
-        ensures broken { result ≡ ReplyNext.Broken → self.new ≡ broken }
-        ensures hopeless { result ≡ ReplyNext.Broken → IsTrue self.old.is_broken ⊎ IsHopeless SpellsReply self.old.held }
-        ensures stays { IsTrue self.old.is_broken → result ≡ ReplyNext.Broken }
+        ensures broken { result ≡ ReplyNext.Broken → self.new.bytes ≡ broken }
+        ensures hopeless { result ≡ ReplyNext.Broken
+            → IsTrue self.old.bytes.is_broken ⊎ IsHopeless SpellsReply self.old.bytes.held }
+        ensures stays { IsTrue self.old.bytes.is_broken → result ≡ ReplyNext.Broken }
 
-        ensures no_memory { result ≡ ReplyNext.NoMemory → self.new ≡ self.old }
-        ensures bound { length self.new.held ≤ most_held }
+        ensures no_memory { result ≡ ReplyNext.NoMemory → self.new.bytes ≡ self.old.bytes }
+        ensures bound { length self.new.bytes.held ≤ most_held }
+        ensures spent { SpendsWithin self.old self.new }
     {
-        if self.held.is_broken() {
-            self.held.break_off();
-            return ReplyNext::Broken;
-        }
-        match first_reply(self.alloc, self.held.as_slice()) {
-            First::Reply(reply, len) => {
-                self.held.take(len);
-                ReplyNext::Reply(reply)
-            }
-            First::Strange(status, len) => {
-                self.held.take(len);
-                ReplyNext::Strange { status }
-            }
-            First::More => {
-                self.held.wait();
-                ReplyNext::More
-            }
-            First::Broken => {
-                self.held.break_off();
-                ReplyNext::Broken
-            }
-            First::NoMemory => ReplyNext::NoMemory,
+        match self.reader.next_counted(steps) {
+            Found::Message(ReplyMessage::Reply(reply)) => ReplyNext::Reply(reply),
+            Found::Message(ReplyMessage::Strange(status)) => ReplyNext::Strange { status },
+            Found::More => ReplyNext::More,
+            Found::Broken => ReplyNext::Broken,
+            Found::NoMemory => ReplyNext::NoMemory,
         }
     }
 
-    /// Whether all bytes fed were whole messages that were taken: the reader is not broken and holds
-    /// no byte.
-    pub fn end(&self) -> bool
-        ensures { IsTrue result ↔ (IsFalse self.now.is_broken × (self.now.held ≡ [])) }
+    /// The first message of the bytes held, which are taken: `next_counted` with a counter of its
+    /// own.
+    pub fn next(&mut self) -> ReplyNext
+        ensures message { IfMessage result (TakesMessage SpellsReply self.old.bytes
+            self.new.bytes) }
+
+        // No message is whole, and there is room for more bytes.
+        ensures more { result ≡ ReplyNext.More → self.new.bytes ≡ waiting self.old.bytes }
+        ensures none_whole { result ≡ ReplyNext.More
+            → HasNoMessage SpellsReply self.old.bytes.held }
+        ensures waits { result ≡ ReplyNext.More
+            → IsWaiting IsReplyHead response_fields self.old.bytes.held }
+
+        // No bytes can follow that make a message, and the reader stays broken.
+        ensures broken { result ≡ ReplyNext.Broken → self.new.bytes ≡ broken }
+        ensures hopeless { result ≡ ReplyNext.Broken
+            → IsTrue self.old.bytes.is_broken ⊎ IsHopeless SpellsReply self.old.bytes.held }
+        ensures stays { IsTrue self.old.bytes.is_broken → result ≡ ReplyNext.Broken }
+
+        ensures no_memory { result ≡ ReplyNext.NoMemory → self.new.bytes ≡ self.old.bytes }
+        ensures bound { length self.new.bytes.held ≤ most_held }
+        ensures spent { SpendsWithin self.old self.new }
     {
-        self.held.end()
+        match self.reader.next() {
+            Found::Message(ReplyMessage::Reply(reply)) => ReplyNext::Reply(reply),
+            Found::Message(ReplyMessage::Strange(status)) => ReplyNext::Strange { status },
+            Found::More => ReplyNext::More,
+            Found::Broken => ReplyNext::Broken,
+            Found::NoMemory => ReplyNext::NoMemory,
+        }
+    }
+
+    /// Whether all bytes fed were whole messages that were taken: the reader is not broken and
+    /// holds no byte.
+    pub fn end(&self) -> bool
+        ensures { IsTrue result ↔ (IsFalse self.now.bytes.is_broken × (self.now.bytes.held ≡ [])) }
+    {
+        self.reader.end()
     }
 }

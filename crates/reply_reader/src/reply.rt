@@ -83,7 +83,9 @@ fn ok_reply(
 ) -> Result<Option<Reply>, NoMemory>
     requires { All (IsHeaderWithin (length buf.now)) headers.now }
     ensures { let fs = map (header_bytes buf.now) headers.now in
-        IfOk result (λ reply. reply ≡ spelling.ok_reply (fields.once fs (codes "Timeout")) body.now (spelling.found_reply body.now (spelling.minutes_field fs) (fields.lock_cookie_field fs) (spelling.action_flags_field fs))) }
+        IfOk result (λ reply. reply ≡ spelling.ok_reply (fields.once fs (codes "Timeout")) body.now
+        (spelling.found_reply body.now (spelling.minutes_field fs) (fields.lock_cookie_field fs)
+        (spelling.action_flags_field fs))) }
 {
     match find_field(buf, headers, b"Timeout") {
         Standing::Absent => Ok(done_reply(body)),
@@ -100,7 +102,8 @@ fn ok_reply(
     }
 }
 
-/// What the status says with the fields of the head that lies in `buf`, and with the body behind it.
+/// What the status says with the fields of the head that lies in `buf`, and with the body behind
+/// it.
 /// `None` where that is no form of a reply.
 #[tactic(auto, unfolding(asp_messages::specs::ReplySpelling::reply_of))]
 pub fn reply(
@@ -111,7 +114,8 @@ pub fn reply(
     body: &[u8],
 ) -> Result<Option<Reply>, NoMemory>
     requires { All (IsHeaderWithin (length buf.now)) headers.now }
-    ensures { IfOk result (λ reply. reply ≡ spelling.reply_of status (map (header_bytes buf.now) headers.now) body.now) }
+    ensures { IfOk result (λ reply. reply ≡ spelling.reply_of status
+        (map (header_bytes buf.now) headers.now) body.now) }
 {
     if status == 200 {
         return ok_reply(alloc, buf, headers, body);

@@ -1,2 +1,3 @@
-pub mod FirstMessage
 pub mod Next
+pub mod RequestLaws
+pub mod Requests

@@ -1,8 +1,9 @@
-//! Requests from the pieces of a stream: exactly the messages that the bytes spell, however they are
-//! cut.
+//! Requests from the pieces of a stream: exactly the messages that the bytes spell, however they
+//! are cut.
 #![tactic(auto)]
 
-mod first_message;
+mod kind;
+mod parts;
 mod reader;
 mod request;
 

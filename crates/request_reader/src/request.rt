@@ -85,7 +85,8 @@ fn ask(
     body: &[u8],
 ) -> Result<Option<Ask>, NoMemory>
     requires { All (IsHeaderWithin (length buf.now)) headers.now }
-    ensures { IfOk result (λ ask. ask ≡ spelling.ask_of verb.now (map (header_bytes buf.now) headers.now) body.now) }
+    ensures { IfOk result (λ ask. ask ≡ spelling.ask_of verb.now
+        (map (header_bytes buf.now) headers.now) body.now) }
 {
     if verb == b"GET".as_slice() {
         let cookie = number_needed(MOST_COOKIE, find_field(buf, headers, b"LockCookie"));
@@ -122,7 +123,8 @@ pub fn message(
     body: &[u8],
 ) -> Result<Message, NoMemory>
     requires { All (IsHeaderWithin (length buf.now)) headers.now }
-    ensures { IfOk result (λ m. m ≡ spelling.message_of verb.now target.now (map (header_bytes buf.now) headers.now) body.now) }
+    ensures { IfOk result (λ m. m ≡ spelling.message_of verb.now target.now
+        (map (header_bytes buf.now) headers.now) body.now) }
 {
     let mut key = Vec::new(alloc);
     percent_decode(target).append_to(&mut key)?;

@@ -29,7 +29,7 @@ impl Model for Stream {
 
     ghost Value = { Connection };
 
-    ghost view = { λ s. record { reader = s.reader; is_due = s.is_due } };
+    ghost view = { λ s. record { reader = s.reader.bytes; is_due = s.is_due } };
 }
 
 impl Stream {

@@ -1,6 +1,6 @@
 //! The replies of a text, read in pieces.
 ghost use Rattle.std.specs.Prelude.{IfOk, IsTrue, OnOk};
-ghost use Rattle.message_framing.specs.Held.{Held};
+ghost use Rattle.message_framing.specs.Held.{Held, Reading};
 
 use asp_base::NoMemory;
 use asp_messages::spell_reply;
@@ -11,7 +11,7 @@ use std::alloc::Global;
 
 /// Adds a line for each reply that the reader has, and answers whether it may be fed.
 fn tell(reader: &mut ReplyReader, told: &mut Vec<u8>, most: usize) -> Result<bool, NoMemory>
-    ensures { IfOk result (λ b. IsTrue b → IsTrue reader.new.may_feed) }
+    ensures { IfOk result (λ b. IsTrue b → IsTrue reader.new.bytes.may_feed) }
 {
     for _ in 0..most {
         match reader.next() {

@@ -1,6 +1,6 @@
 //! The requests of a text, read in pieces.
 ghost use Rattle.std.specs.Prelude.{IfOk, IsTrue, OnOk};
-ghost use Rattle.message_framing.specs.Held.{Held};
+ghost use Rattle.message_framing.specs.Held.{Held, Reading};
 
 use asp_base::NoMemory;
 use asp_messages::{Message, spell_ask};
@@ -25,7 +25,7 @@ fn tell_message(told: &mut Vec<u8>, message: &Message) -> Result<(), NoMemory> {
 
 /// Adds a line for each request that the reader has, and answers whether it may be fed.
 fn tell(reader: &mut RequestReader, told: &mut Vec<u8>, most: usize) -> Result<bool, NoMemory>
-    ensures { IfOk result (λ b. IsTrue b → IsTrue reader.new.may_feed) }
+    ensures { IfOk result (λ b. IsTrue b → IsTrue reader.new.bytes.may_feed) }
 {
     for _ in 0..most {
         match reader.next() {

@@ -5,4 +5,5 @@ use Rattle.message_framing.specs.Standings.{standing_of}
 use Rattle.message_framing.proofs.fields.find_field.Given as goal
 
 abbrev pub invariant-loop-header : goal.invariant-loop-header
-invariant-loop-header l = standing_of l.found ≡ once (map (header_bytes l.buf) (take l.header-index l.headers)) l.name
+invariant-loop-header l = standing_of l.found
+    ≡ once (map (header_bytes l.buf) (take l.header-index l.headers)) l.name

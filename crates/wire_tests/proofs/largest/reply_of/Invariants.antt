@@ -2,4 +2,4 @@ use Rattle.std.proofs.Common.{IsTrue}
 use Rattle.wire_tests.proofs.largest.reply_of.Given as goal
 
 abbrev pub invariant-loop-piece : goal.invariant-loop-piece
-invariant-loop-piece l = IsTrue l.reader.may_feed
+invariant-loop-piece l = IsTrue l.reader.bytes.may_feed

@@ -1,0 +1,120 @@
+use Rattle.std.proofs.Common.{◌≡◌, ◌⊎◌, inl, inr, sym, ap, subst, ◌∙◌, arith, append_assoc, [], length, ◌++◌, Bool, true, false, IsTrue}
+use Rattle.asp_messages.specs.Stream.{HasNoMessage, IsHopeless}
+use Rattle.message_framing.specs.Held.{Reading}
+use Rattle.message_framing.specs.Framed.{Framed, SpendsWithin, text_of, spent_of, is_broken_state}
+use Rattle.message_framing.proofs.ReaderLemmas.{stands-spent, if-found, is-false, either-way}
+use Rattle.message_framing.proofs.reader.MessageReader.next_counted.Goals as goal
+
+pub returns-then-matches-clause-none_whole : goal.returns-then-matches-clause-none_whole
+returns-then-matches-clause-none_whole g c = λ is.
+    let kind = g.K.MessageKind in
+    let held = c.self.inside.held in
+    let whole : is_broken_state c.read.new.state ≡ false =
+    is-false (is_broken_state c.read.new.state)
+    (λ broken. let clash = sym is ∙ (c.give-found.ensures.stays broken).0 in cc) in
+    let bytes : text_of c.read.new.state ++ c.read.new.held ≡ c.args.self.now.bytes.held =
+    c.in-Ok.ensures.same whole ∙ ap (λ t. t ++ held) c.look.ensures.text
+    ∙ ap (λ (r : Reading). r.bytes.held) c.self.view_is in
+    subst (HasNoMessage (Framed kind.Means)) bytes (c.give-found.ensures.none_whole is)
+
+pub returns-then-matches-clause-hopeless : goal.returns-then-matches-clause-hopeless
+returns-then-matches-clause-hopeless g c = λ is.
+    let kind = g.K.MessageKind in
+    let held = c.self.inside.held in
+    let answer : Type 0 = (IsTrue c.args.self.now.bytes.is_broken)
+    ⊎ IsHopeless (Framed kind.Means) c.args.self.now.bytes.held in
+    let first : text_of c.look.new.state ++ held ≡ c.args.self.now.bytes.held =
+    ap (λ t. t ++ held) c.look.ensures.text ∙ ap (λ (r : Reading). r.bytes.held) c.self.view_is in
+    either-way (is_broken_state c.read.new.state) answer
+    (λ broken. elim (c.in-Ok.ensures.hopeless broken) as (λ _. answer) [
+      | inl was ↦ inl (ap (λ (r : Reading). r.bytes.is_broken) (sym c.self.view_is)
+          ∙ sym c.look.ensures.broken ∙ was)
+      | inr none ↦ inr (subst (IsHopeless (Framed kind.Means)) first none)
+    ])
+    (λ whole. elim (c.give-found.ensures.hopeless is) as (λ _. answer) [
+      | inl was ↦ (let clash : ◌≡◌ {A = Bool} false true = sym whole ∙ was in cc)
+      | inr none ↦ inr (subst (IsHopeless (Framed kind.Means)) (c.in-Ok.ensures.same whole ∙ first)
+          none)
+    ])
+
+pub returns-then-matches-clause-spent : goal.returns-then-matches-clause-spent
+returns-then-matches-clause-spent g c =
+    let kind = g.K.MessageKind in
+    let old = c.self.inside.state in
+    let spends : SpendsWithin c.args.self.now
+    (record {
+      bytes = record {
+        held = text_of c.give-found.new.state
+            ++ c.give-found.new.held;
+        is_broken = is_broken_state c.give-found.new.state;
+        may_feed =
+            true;
+      };
+      spent = spent_of c.give-found.new.state;
+    }) =
+    record {
+      held = λ whole. stands-spent kind.IsHead c.give-found.new.state c.give-found.new.held
+          c.give-found.ensures.stands whole;
+      broke = λ whole _.
+          let whole_then : is_broken_state c.look.new.state ≡ false = c.look.ensures.broken
+          ∙ ap (λ (r : Reading). r.bytes.is_broken) c.self.view_is ∙ whole in
+          let bytes : text_of c.look.new.state ++ c.self.inside.held ≡ c.args.self.now.bytes.held =
+          ap (λ t. t ++ c.self.inside.held) c.look.ensures.text
+          ∙ ap (λ (r : Reading). r.bytes.held) c.self.view_is in
+          omega (
+            arith,
+            c.give-found.ensures.less,
+            c.in-Ok.ensures.within whole_then,
+            ap length
+                bytes,
+          );
+      stays = λ broken.
+          let broken_then : is_broken_state old ≡ true =
+          ap (λ (r : Reading). r.bytes.is_broken) c.self.view_is ∙ broken in
+          let look_same = c.look.ensures.stays broken_then in
+          let broken_looked : is_broken_state c.look.new.state ≡ true = c.look.ensures.broken
+          ∙ broken_then in
+          let read_same = c.read.ensures.stays broken_looked in
+          let broken_read : is_broken_state c.read.new.state ≡ true = ap is_broken_state read_same.1
+          ∙ broken_looked in
+          (c.give-found.ensures.stays broken_read).1 ∙ ap spent_of read_same.1
+          ∙ ap spent_of look_same ∙ ap (λ (r : Reading). r.spent) c.self.view_is;
+    } in
+    spends
+
+pub returns-else-matches-clause-message : goal.returns-else-matches-clause-message
+returns-else-matches-clause-message g c =
+    let kind = g.K.MessageKind in
+    let held = c.self.inside.held in
+    let first : text_of c.look.new.state ++ held ≡ c.args.self.now.bytes.held =
+    ap (λ t. t ++ held) c.look.ensures.text ∙ ap (λ (r : Reading). r.bytes.held) c.self.view_is in
+    let spent_first : spent_of c.self.inside.state ≡ c.args.self.now.spent =
+    ap (λ (r : Reading). r.spent) c.self.view_is in
+    if-found c.give-found.result _ _ c.give-found.ensures.message (λ m found.
+    let gives = found.0 in
+    let body = gives.body in
+    let text = text_of c.read.new.state in
+    let text_new : text_of c.give-found.new.state ≡ [] = ap text_of found.1 in
+    let looked_whole : is_broken_state c.look.new.state ≡ false =
+    is-false (is_broken_state c.look.new.state)
+    (λ broken. let clash : ◌≡◌ {A = Bool} false true = sym gives.whole
+    ∙ ap is_broken_state (c.read.ensures.stays broken).1 ∙ broken in cc) in
+    record {
+      text = text;
+      body = body;
+      means = gives.means;
+      held = sym (c.in-Ok.ensures.same gives.whole ∙ first) ∙ ap (λ t. text ++ t) gives.held
+          ∙ sym (append_assoc text body c.give-found.new.held)
+          ∙ ap (λ t. (text ++ body) ++ (t ++ c.give-found.new.held)) (sym text_new);
+      whole = ap is_broken_state found.1 ∙ sym looked_whole ∙ c.look.ensures.broken
+          ∙ ap (λ (r : Reading). r.bytes.is_broken) c.self.view_is;
+      counted = omega (
+        arith,
+        gives.spent,
+        c.look.ensures.steps,
+        c.read.ensures.steps,
+        c.look.ensures.rises,
+        c.read.ensures.rises,
+      );
+      forgotten = ap spent_of found.1;
+    })

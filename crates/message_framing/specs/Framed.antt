@@ -1,0 +1,141 @@
+-- Messages as a head's text and a body, over what they mean.
+use Rattle.std.specs.Prelude.{◌≡◌, ℕ, ◌+◌, ◌*◌, ◌≤◌, List, [], ◌++◌, length, min, Bool, true, false, IsTrue, IsFalse, ⊤, ◌⊎◌}
+use Rattle.asp_messages.specs.Head.{most_head}
+use Rattle.asp_messages.specs.Stream.{HasNoMessage, IsHopeless}
+use Rattle.message_framing.specs.declared.reader.Found.{Found}
+use Rattle.message_framing.specs.declared.reader.Found.TheVariants as founds
+use Rattle.message_framing.specs.declared.reader.State.{State}
+use Rattle.message_framing.specs.declared.reader.State.TheVariants as states
+use Rattle.message_framing.specs.Held.{Reading, waiting, broken, most_held}
+use Rattle.message_framing.specs.HeadEnd.{EndsHead}
+use Rattle.message_framing.specs.Looks.{IsOpen, IsEnded}
+
+-- The bytes are a head's text and a body, and together they mean a message.
+pub record Framed {M : Type 0} (Means : List ℕ → List ℕ → M → Type 0) (bytes : List ℕ) (m : M)
+    : Type 0 where
+  pub text : List ℕ
+  pub body : List ℕ
+  pub bytes_are : bytes ≡ text ++ body
+  pub means : Means text body m
+
+-- a fact of the message that was found
+abbrev pub IfFound : {M : Type 0} → Found M → (M → Type 0) → Type 0
+IfFound (founds.Message m) P = P m
+IfFound founds.More P = ⊤
+IfFound founds.Broken P = ⊤
+IfFound founds.NoMemory P = ⊤
+
+-- a fact where no message was found
+abbrev pub UnlessFound : {M : Type 0} → Found M → Type 0 → Type 0
+UnlessFound (founds.Message m) P = ⊤
+UnlessFound founds.More P = P
+UnlessFound founds.Broken P = P
+UnlessFound founds.NoMemory P = P
+
+-- ---- the state of a reader
+
+-- the text of the head that was read, which the bytes held follow
+abbrev pub text_of : {P : Type 0} → State P → List ℕ
+text_of (states.Looking n phase) = []
+text_of (states.Ended n) = []
+text_of (states.Read text parts) = text.items
+text_of (states.Broken n) = []
+
+-- how often a byte of the head was looked at
+abbrev pub spent_of : {P : Type 0} → State P → ℕ
+spent_of (states.Looking n phase) = n
+spent_of (states.Ended n) = n
+spent_of (states.Read text parts) = 2 * length text.items
+spent_of (states.Broken n) = n
+
+abbrev pub is_broken_state : {P : Type 0} → State P → Bool
+is_broken_state (states.Looking n phase) = false
+is_broken_state (states.Ended n) = false
+is_broken_state (states.Read text parts) = false
+is_broken_state (states.Broken n) = true
+
+-- what callers see of a reader
+abbrev pub reading_of : {P : Type 0} → State P → List ℕ → Bool → Reading
+reading_of state held may_feed = record {
+  bytes = record {
+    held = text_of state ++ held;
+    is_broken = is_broken_state state;
+    may_feed = may_feed;
+  };
+  spent = spent_of state;
+}
+
+-- The text is a head that ends with it.
+pub record IsRead {P : Type 0} (IsHead : List ℕ → P → Type 0) (text : List ℕ) (parts : P) : Type
+    0 where
+  pub is_head : IsHead text parts
+  pub ends : EndsHead text
+  pub short : length text ≤ most_head
+
+-- the state of a reader and the bytes behind the head that it read
+abbrev pub Stands : {P : Type 0} → (List ℕ → P → Type 0) → State P → List ℕ → Type 0
+Stands IsHead (states.Looking n phase) held = IsOpen held n phase
+Stands IsHead (states.Ended n) held = IsEnded held n
+Stands IsHead (states.Read text parts) held = IsRead IsHead text.items parts
+Stands IsHead (states.Broken n) held = held ≡ []
+
+-- the look is over: the bytes that are held show no end of a head, or as many as a head may have
+abbrev pub IsLooked : {P : Type 0} → State P → List ℕ → Type 0
+IsLooked (states.Looking n phase) held = n ≡ min (length held) most_head
+IsLooked (states.Ended n) held = ⊤
+IsLooked (states.Read text parts) held = ⊤
+IsLooked (states.Broken n) held = ⊤
+
+-- no head waits to be read
+abbrev pub IsPast : {P : Type 0} → State P → List ℕ → Type 0
+IsPast (states.Looking n phase) held = n ≡ min (length held) most_head
+IsPast (states.Ended n) held = ⊥
+IsPast (states.Read text parts) held = ⊤
+IsPast (states.Broken n) held = ⊤
+
+-- A message was found behind the head that was read, and its body taken off.
+pub record Gives {P M : Type 0} (Means : List ℕ → List ℕ → M → Type 0) (state : State P)
+    (old new : List ℕ) (m : M) : Type 0 where
+  pub body : List ℕ
+  pub means : Means (text_of state) body m
+  pub held : old ≡ body ++ new
+  pub spent : spent_of state ≡ 2 * length (text_of state)
+  pub whole : is_broken_state state ≡ false
+
+-- A message was taken from the front of the bytes held. Each byte of its head was looked at twice,
+-- with those looks that were spent on it before.
+pub record TakesFramed {M : Type 0} (Means : List ℕ → List ℕ → M → Type 0) (old new : Reading)
+    (ticks : ℕ) (m : M)
+    : Type 0 where
+  pub text : List ℕ
+  pub body : List ℕ
+  pub means : Means text body m
+  pub held : old.bytes.held ≡ (text ++ body) ++ new.bytes.held
+  pub whole : new.bytes.is_broken ≡ old.bytes.is_broken
+  pub counted : ticks + old.spent ≤ 2 * length text
+  pub forgotten : new.spent ≡ 0
+
+-- What is spent is at most twice the bytes that are held, and twice those of a head. A broken
+-- reader holds none: there the bytes are those that it held when it broke, and nothing is spent
+-- from then on.
+pub record SpendsWithin (old new : Reading) : Type 0 where
+  pub held : IsFalse new.bytes.is_broken → new.spent ≤ 2 * min (length new.bytes.held) most_head
+  pub broke : IsFalse old.bytes.is_broken → IsTrue new.bytes.is_broken
+      → new.spent ≤ 2 * min (length old.bytes.held) most_head
+  pub stays : IsTrue old.bytes.is_broken → new.spent ≡ old.spent
+
+-- What a reader answers, and what it holds then.
+pub record IsNext {M : Type 0} (Means : List ℕ → List ℕ → M → Type 0) (Waits : List ℕ → Type 0)
+    (old new : Reading) (found : Found M)
+    : Type 0 where
+  pub message : IfFound found (λ m. (ticks : ℕ) × TakesFramed Means old new ticks m)
+  pub more : found ≡ founds.More → new.bytes ≡ waiting old.bytes
+  pub none_whole : found ≡ founds.More → HasNoMessage (Framed Means) old.bytes.held
+  pub waits : found ≡ founds.More → Waits old.bytes.held
+  pub broken : found ≡ founds.Broken → new.bytes ≡ broken
+  pub hopeless : found ≡ founds.Broken → IsTrue old.bytes.is_broken
+      ⊎ IsHopeless (Framed Means) old.bytes.held
+  pub stays : IsTrue old.bytes.is_broken → found ≡ founds.Broken
+  pub no_memory : found ≡ founds.NoMemory → new.bytes ≡ old.bytes
+  pub bound : length new.bytes.held ≤ most_held
+  pub spent : SpendsWithin old new

@@ -1,0 +1,26 @@
+-- What a look for the end of a head finds.
+use Rattle.std.specs.Prelude.{◌≡◌, ℕ, ◌≤◌, ◌+◌, min, List, length, take, Some}
+use Rattle.asp_messages.specs.Head.{most_head}
+use Rattle.message_framing.specs.declared.head_end.Look.{Look}
+use Rattle.message_framing.specs.declared.head_end.Look.TheVariants.{Ended, Open}
+use Rattle.message_framing.specs.declared.head_end.Phase.{Phase}
+use Rattle.message_framing.specs.declared.head_end.Phase.TheVariants.{Blank}
+use Rattle.message_framing.specs.HeadEnd.{seen, EndsHead}
+
+-- The first n of the bytes were looked at, and a head doesn't end in them.
+pub record IsOpen (bytes : List ℕ) (n : ℕ) (phase : Phase) : Type 0 where
+  pub within : n ≤ length bytes
+  pub short : n ≤ most_head
+  pub seen_so : seen Blank (take n bytes) ≡ Some phase
+
+-- A head ends with the first n of the bytes.
+pub record IsEnded (bytes : List ℕ) (n : ℕ) : Type 0 where
+  pub within : n ≤ length bytes
+  pub short : n ≤ most_head
+  pub ends : EndsHead (take n bytes)
+
+-- from the first bytes on, by so many steps
+abbrev pub LooksOn : List ℕ → ℕ → Look → ℕ → Type 0
+LooksOn bytes from (Ended n) steps = IsEnded bytes n × (n ≡ from + steps)
+LooksOn bytes from (Open n phase) steps = IsOpen bytes n phase × (n ≡ from + steps)
+    × (n ≡ min (length bytes) most_head)

@@ -1,0 +1,297 @@
+//! A reader of messages of any kind, which looks at each byte of a head once and reads it once.
+ghost use Rattle.std.specs.Prelude.{◌⊎◌, ◌≡◌, ◌<◌, ◌≤◌, ◌+◌, ◌-◌, ◌*◌, ◌↔◌, [], ◌++◌, length, IsTrue, IsFalse, IsOk, OnOk, OnErr, min};
+ghost use Rattle.asp_messages.specs.Fields.{most_body};
+ghost use Rattle.asp_messages.specs.Head.{most_head};
+ghost use Rattle.asp_messages.specs.Stream.{HasNoMessage, IsHopeless};
+ghost use Rattle.message_framing.specs.Framed.{Framed, IfFound, UnlessFound, text_of, spent_of, is_broken_state, Stands, IsLooked, IsPast, Gives, SpendsWithin, TakesFramed, IsNext};
+ghost use Rattle.message_framing.specs.Held.{Reading, empty_reader, fed, waiting, broken, most_held, most_piece};
+
+use crate::head_end::{Look, MOST_HEAD, Phase, look_on};
+use crate::kind::MessageKind;
+use asp_base::{Held, NoMemory, Steps};
+use std::alloc::Global;
+use std::marker::{Brand, Model};
+use std::sync::ledger::{Blank, Ledger};
+
+/// The most bytes of a piece that is fed.
+pub const MOST_PIECE: usize = 16_384;
+
+/// The most bytes that a reader holds: a head, a body and a piece.
+pub const MOST_HELD: usize = 4_218_880;
+
+/// What a reader finds at the front of the bytes that it holds.
+#[derive(Drop)]
+pub enum Found<M> {
+    /// A message, which was taken.
+    Message(M),
+    /// No message is whole; feed more bytes.
+    More,
+    /// The bytes can never become a message; the reader is broken for good.
+    Broken,
+    /// There was no memory for the message; the bytes held are as they were.
+    NoMemory,
+}
+
+/// How far a reader has come with the first message of the bytes that it holds.
+#[derive(Drop)]
+pub enum State<P> {
+    /// It looked at so many bytes, in which the head doesn't end.
+    Looking(u64, Phase),
+    /// The head ends after so many bytes, and was not read.
+    Ended(u64),
+    /// The head has this text and these parts, and was taken off the bytes.
+    Read(Vec<u8>, P),
+    /// No message can come. A byte was looked at so often.
+    Broken(u64),
+}
+
+/// A reader of messages of one kind from the pieces of a stream. It never holds more than 4,218,880
+/// bytes.
+#[derive(Drop)]
+pub struct MessageReader<K: MessageKind> {
+    alloc: Global,
+    held: Held,
+    state: State<K::Parts>,
+    may_feed: bool,
+}
+
+impl<K: MessageKind> Model for MessageReader<K> {
+    ghost use Rattle.std.specs.Prelude.{◌<◌, ◌≤◌, ◌+◌, ◌++◌, length, IsTrue};
+    ghost use Rattle.asp_messages.specs.Fields.{most_body};
+    ghost use Rattle.asp_messages.specs.Head.{most_head};
+    ghost use Rattle.message_framing.specs.Framed.{Stands, reading_of, text_of};
+    ghost use Rattle.message_framing.specs.Held.{Reading, most_held};
+
+    ghost Value = { Reading };
+
+    ghost view = { λ r. reading_of r.state r.held r.may_feed };
+
+    ghost invariant = { λ r. Stands K.IsHead r.state r.held
+        × (length (text_of r.state ++ r.held) ≤ most_held)
+        × (IsTrue r.may_feed → length (text_of r.state ++ r.held) < most_head + most_body) };
+}
+
+/// Looks on for the end of the head.
+fn look<K: MessageKind, L: Ledger>(held: &Held, state: &mut State<K::Parts>, steps: &mut Steps<L>)
+    requires { Stands K.IsHead state.old held.now }
+    ensures stands { Stands K.IsHead state.new held.now }
+    ensures looked { IsLooked state.new held.now }
+    ensures text { text_of state.new ≡ text_of state.old }
+    ensures broken { is_broken_state state.new ≡ is_broken_state state.old }
+    ensures stays { IsTrue (is_broken_state state.old) → state.new ≡ state.old }
+    ensures steps { steps.new + spent_of state.old ≡ steps.old + spent_of state.new }
+    ensures rises { steps.old ≤ steps.new }
+{
+    if let State::Looking(from, phase) = *state {
+        *state = match look_on(held, from, phase, steps) {
+            Look::Ended(len) => State::Ended(len),
+            Look::Open(len, phase) => State::Looking(len, phase),
+        };
+    }
+}
+
+/// Reads the head whose end was found, and takes it off the bytes. After `NoMemory` nothing has
+/// changed.
+fn read<K: MessageKind, L: Ledger>(
+    alloc: Global,
+    held: &mut Held,
+    state: &mut State<K::Parts>,
+    steps: &mut Steps<L>,
+) -> Result<(), NoMemory>
+    requires stands { Stands K.IsHead state.old held.old }
+    requires looked { IsLooked state.old held.old }
+    ensures stands { Stands K.IsHead state.new held.new }
+    ensures past { OnOk result (IsPast state.new held.new) }
+    ensures same { OnOk result (IsFalse (is_broken_state state.new)
+        → text_of state.new ++ held.new ≡ text_of state.old ++ held.old) }
+    ensures hopeless { OnOk result (IsTrue (is_broken_state state.new)
+        → IsTrue (is_broken_state state.old) ⊎ IsHopeless (Framed K.Means)
+        (text_of state.old ++ held.old)) }
+    ensures stays { IsTrue (is_broken_state state.old)
+        → IsOk result × (state.new ≡ state.old) × (held.new ≡ held.old) }
+    ensures within { IsFalse (is_broken_state state.old)
+        → spent_of state.new ≤ 2 * min (length (text_of state.old ++ held.old)) most_head }
+    ensures err { OnErr result (state.new ≡ state.old) }
+    ensures err_held { OnErr result (held.new ≡ held.old) }
+    ensures steps { steps.new + spent_of state.old ≡ steps.old + spent_of state.new }
+    ensures rises { steps.old ≤ steps.new }
+{
+    let State::Ended(len) = *state else {
+        return Ok(());
+    };
+    let mut text = Vec::with_capacity(alloc, len as usize)?;
+    text.extend_from_slice(held.front(len, steps))?;
+    match K::parse(&text) {
+        Some(parts) => {
+            held.split(len, 0)?;
+            *state = State::Read(text, parts);
+        }
+        None => {
+            *held = Held::new(alloc);
+            *state = State::Broken(2 * len);
+        }
+    }
+    Ok(())
+}
+
+/// Gives the message of the head that was read, where its body is whole, and takes the body off the
+/// bytes.
+fn give<K: MessageKind>(
+    alloc: Global,
+    held: &mut Held,
+    state: &mut State<K::Parts>,
+) -> Found<K::Message>
+    requires stands { Stands K.IsHead state.old held.old }
+    requires past { IsPast state.old held.old }
+    ensures stands { Stands K.IsHead state.new held.new }
+    ensures message { IfFound result (λ m. Gives K.Means state.old held.old held.new m
+        × (state.new ≡ State.Looking 0 Phase.Blank)) }
+    ensures same { UnlessFound result (spent_of state.new ≡ spent_of state.old) }
+    ensures more { result ≡ Found.More → (state.new ≡ state.old) × (held.new ≡ held.old) }
+    ensures room { result ≡ Found.More → length (text_of state.old ++ held.old) < most_head
+        + most_body }
+    ensures none_whole { result ≡ Found.More →
+        HasNoMessage (Framed K.Means) (text_of state.old ++ held.old) }
+    ensures waits { result ≡ Found.More → K.Waits (text_of state.old ++ held.old) }
+    ensures broken { result ≡ Found.Broken → (held.new ≡ []) × IsTrue (is_broken_state state.new)
+        × (text_of state.new ≡ []) }
+    ensures hopeless { result ≡ Found.Broken → IsTrue (is_broken_state state.old)
+        ⊎ IsHopeless (Framed K.Means) (text_of state.old ++ held.old) }
+    ensures stays { IsTrue (is_broken_state state.old)
+        → (result ≡ Found.Broken) × (spent_of state.new ≡ spent_of state.old) }
+    ensures less { spent_of state.new ≤ spent_of state.old }
+    ensures no_memory { result ≡ Found.NoMemory → (state.new ≡ state.old) × (held.new ≡ held.old) }
+{
+    let message = match state {
+        State::Looking(len, _) => {
+            if *len < MOST_HEAD as u64 {
+                return Found::More;
+            }
+            let spent = *len;
+            *held = Held::new(alloc);
+            *state = State::Broken(spent);
+            return Found::Broken;
+        }
+        State::Ended(_) => return Found::More,
+        State::Broken(_) => return Found::Broken,
+        State::Read(text, parts) => {
+            let wanted = K::body_len(parts);
+            if held.len() < wanted {
+                return Found::More;
+            }
+            let Ok(message) = K::begin(alloc, text, parts) else {
+                return Found::NoMemory;
+            };
+            let Ok(body) = held.split(0, wanted) else {
+                return Found::NoMemory;
+            };
+            K::fill(message, body)
+        }
+    };
+    *state = State::Looking(0, Phase::Blank);
+    Found::Message(message)
+}
+
+impl<K: MessageKind> MessageReader<K> {
+    /// A reader that was fed nothing. It takes no memory.
+    pub fn new(alloc: Global) -> MessageReader<K>
+        ensures { result ≡ record { bytes = empty_reader; spent = 0 } }
+    {
+        MessageReader {
+            alloc,
+            held: Held::new(alloc),
+            state: State::Looking(0, Phase::Blank),
+            may_feed: true,
+        }
+    }
+
+    /// Adds a piece of at most 16,384 bytes. A broken reader keeps nothing. The only error is want
+    /// of memory, and nothing has changed then.
+    pub fn feed(&mut self, piece: &[u8]) -> Result<(), NoMemory>
+        requires piece { length piece.now ≤ most_piece }
+        requires may_feed { IsTrue self.old.bytes.may_feed }
+        ensures ok { OnOk result (self.new.bytes ≡ fed self.old.bytes piece.now) }
+        ensures err { OnErr result (self.new ≡ self.old) }
+        ensures spent { self.new.spent ≡ self.old.spent }
+        ensures bound { length self.new.bytes.held ≤ most_held }
+    {
+        if !matches!(self.state, State::Broken(_)) {
+            self.held.add(piece)?;
+        }
+        self.may_feed = false;
+        Ok(())
+    }
+
+    /// How often a byte of the message that is held was looked at.
+    pub fn spent(&self) -> u64
+        ensures { result ≡ self.now.spent }
+    {
+        match &self.state {
+            State::Looking(len, _) | State::Ended(len) | State::Broken(len) => *len,
+            State::Read(text, _) => 2 * text.len() as u64,
+        }
+    }
+
+    /// The first message of the bytes held, which are taken. It counts each look at a byte.
+    pub fn next_counted<L: Ledger>(&mut self, steps: &mut Steps<L>) -> Found<K::Message>
+        ensures message { IfFound result (TakesFramed K.Means self.old self.new
+            (steps.new - steps.old)) }
+        ensures rises { steps.old ≤ steps.new }
+        ensures growth { UnlessFound result (steps.new + self.old.spent ≡ steps.old
+            + self.new.spent) }
+
+        // No message is whole, and there is room for more bytes.
+        ensures more { result ≡ Found.More → self.new.bytes ≡ waiting self.old.bytes }
+        ensures none_whole { result ≡ Found.More
+            → HasNoMessage (Framed K.Means) self.old.bytes.held }
+        ensures waits { result ≡ Found.More → K.Waits self.old.bytes.held }
+
+        // No bytes can follow that make a message, and the reader stays broken.
+        ensures broken { result ≡ Found.Broken → self.new.bytes ≡ broken }
+        ensures hopeless { result ≡ Found.Broken
+            → IsTrue self.old.bytes.is_broken ⊎ IsHopeless (Framed K.Means) self.old.bytes.held }
+        ensures stays { IsTrue self.old.bytes.is_broken → result ≡ Found.Broken }
+
+        ensures no_memory { result ≡ Found.NoMemory → self.new.bytes ≡ self.old.bytes }
+        ensures bound { length self.new.bytes.held ≤ most_held }
+        ensures spent { SpendsWithin self.old self.new }
+    {
+        look::<K, L>(&self.held, &mut self.state, steps);
+        let Ok(()) = read::<K, L>(self.alloc, &mut self.held, &mut self.state, steps) else {
+            return Found::NoMemory;
+        };
+        let found = give::<K>(self.alloc, &mut self.held, &mut self.state);
+        if matches!(found, Found::More | Found::Broken) {
+            self.may_feed = true;
+        }
+        found
+    }
+
+    fn next_of<L: Ledger>(&mut self, blank: Blank) -> Found<K::Message>
+        requires name { blank.name ≡ L.name }
+        requires parts { blank.parts ≡ L.parts }
+        requires has_parts { 0 < L.parts }
+        ensures { IsNext K.Means K.Waits self.old self.new result }
+    {
+        let mut steps = Steps::<L>::new(blank);
+        self.next_counted(&mut steps)
+    }
+
+    /// The first message of the bytes held, which are taken: `next_counted` with a counter of its
+    /// own.
+    pub fn next(&mut self) -> Found<K::Message>
+        ensures { IsNext K.Means K.Waits self.old self.new result }
+    {
+        self.next_of::<Brand>(Blank::new(1))
+    }
+
+    /// Whether the reader is not broken and holds no byte.
+    pub fn end(&self) -> bool
+        ensures { IsTrue result ↔ (IsFalse self.now.bytes.is_broken × (self.now.bytes.held ≡ [])) }
+    {
+        match &self.state {
+            State::Looking(_, _) | State::Ended(_) => self.held.len() == 0,
+            State::Read(_, _) | State::Broken(_) => false,
+        }
+    }
+}

@@ -1,0 +1,61 @@
+-- What the head of a response means.
+use Rattle.std.specs.Prelude.{◌≡◌, ℕ, ◌≤◌, List, [], ◌∷◌, length, take, map, Some}
+use Rattle.httparse.specs.Grammar.{ResponseHead, status_code}
+use Rattle.httparse.specs.Spans.{header_bytes, IsResponseWithin, IsResponseOf}
+use Rattle.asp_messages.specs.declared.reply.Reply.{Reply}
+use Rattle.asp_messages.specs.declared.reply.Reply.TheVariants as replies
+use Rattle.asp_messages.specs.Fields.{response_fields, body_length}
+use Rattle.asp_messages.specs.Head.{IsReplyHead, most_head}
+use Rattle.asp_messages.specs.ReplySpelling.{Answer, reply, strange, answer_of}
+use Rattle.reply_reader.specs.declared.parts.ReplyParts.{ReplyParts}
+use Rattle.reply_reader.specs.declared.parts.ReplyMessage.{ReplyMessage}
+use Rattle.reply_reader.specs.declared.parts.ReplyMessage.TheVariants as messages
+
+-- The text is a head, these are its parts, and its body has the length that it announces.
+pub record IsReplyParts (text : List ℕ) (parts : ReplyParts) : Type 0 where
+  pub within : IsResponseWithin text parts.headers parts.spans
+  pub of : IsResponseOf text parts.headers parts.spans
+  pub whole : parts.spans.len ≡ length text
+  pub short : length text ≤ most_head
+  pub room : length parts.headers ≤ 64
+  pub announced : body_length (map (header_bytes text) (take parts.spans.headers parts.headers))
+      ≡ Some parts.body_len
+
+-- the length of the body that the parts announce
+abbrev pub body_len_of : ReplyParts → ℕ
+body_len_of parts = parts.body_len
+
+-- the answer that a message is
+abbrev pub answer_told : ReplyMessage → Answer
+answer_told (messages.Reply r) = reply r
+answer_told (messages.Strange status) = strange status
+
+-- The text is a response head that announces this body, and they say the answer.
+pub record MeansReply (text body : List ℕ) (m : ReplyMessage) : Type 0 where
+  pub head : ResponseHead
+  pub is_head : IsReplyHead text head
+  pub announced : body_length (response_fields head) ≡ Some (length body)
+  pub answer_is : answer_told m ≡ answer_of (status_code head) (response_fields head) body
+
+-- a 200 without content: done, where there is no body
+abbrev pub done_with : List ℕ → ReplyMessage
+done_with [] = messages.Reply replies.Done
+done_with (byte ∷ bytes) = messages.Strange 200
+
+-- the reply with this body
+abbrev pub filled_reply : Reply → List ℕ → ReplyMessage
+filled_reply (replies.Found old minutes cookie first) body =
+    messages.Reply (replies.Found body minutes cookie first)
+filled_reply replies.Done body = done_with body
+filled_reply (replies.Locked cookie age) body = messages.Reply (replies.Locked cookie age)
+filled_reply replies.Missing body = messages.Reply replies.Missing
+filled_reply replies.Bad body = messages.Reply replies.Bad
+filled_reply replies.KeeperFault body = messages.Reply replies.KeeperFault
+filled_reply replies.NoMemory body = messages.Reply replies.NoMemory
+filled_reply replies.CookiesOut body = messages.Reply replies.CookiesOut
+filled_reply replies.PlacesOut body = messages.Reply replies.PlacesOut
+
+-- the message with this body
+abbrev pub filled : ReplyMessage → List ℕ → ReplyMessage
+filled (messages.Reply r) body = filled_reply r body
+filled (messages.Strange status) body = messages.Strange status

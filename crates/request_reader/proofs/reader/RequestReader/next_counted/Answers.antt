@@ -1,0 +1,53 @@
+use Rattle.asp_messages.specs.declared.request.Message.{Message}
+use Rattle.request_reader.specs.Next.{IfNext, TakesCounted}
+use Rattle.std.proofs.Common.{◌-◌, ◌≡◌, ◌⊎◌, inl, inr, sym, ap, subst, ◌∙◌, true}
+use Rattle.asp_messages.specs.RequestSpelling.{SpellsRequest}
+use Rattle.asp_messages.specs.Stream.{HasNoMessage, IsHopeless}
+use Rattle.message_framing.specs.Held.{Reading}
+use Rattle.request_reader.specs.RequestLaws.{none-none, hopeless-hopeless, takes}
+use Rattle.request_reader.proofs.reader.RequestReader.next_counted.Goals.{in-Message, in-More, in-Broken, in-NoMemory}
+use Rattle.request_reader.proofs.reader.RequestReader.next_counted.Goals as goal
+
+pub returns-clause-none_whole : goal.returns-clause-none_whole
+returns-clause-none_whole g c = λ is.
+    let held = c.args.self.now.bytes.held in
+    let answer : Type 0 = HasNoMessage SpellsRequest held in
+    elim c.match-next_counted.branch as (λ _. answer) [
+      | in-Message w ↦ (let clash = sym w.result-is ∙ is in cc)
+      | in-More w ↦ subst (λ (r : Reading). HasNoMessage SpellsRequest r.bytes.held) c.self.view_is
+          (none-none c.self.inside.reader.bytes.held
+          (c.next_counted.ensures.none_whole w.in-More.is))
+      | in-Broken w ↦ (let clash = sym w.result-is ∙ is in cc)
+      | in-NoMemory w ↦ (let clash = sym w.result-is ∙ is in cc)
+    ]
+
+pub returns-clause-hopeless : goal.returns-clause-hopeless
+returns-clause-hopeless g c = λ is.
+    let answer : Type 0 = (c.args.self.now.bytes.is_broken ≡ true)
+    ⊎ IsHopeless SpellsRequest c.args.self.now.bytes.held in
+    elim c.match-next_counted.branch as (λ _. answer) [
+      | in-Message w ↦ (let clash = sym w.result-is ∙ is in cc)
+      | in-More w ↦ (let clash = sym w.result-is ∙ is in cc)
+      | in-Broken w ↦ elim (c.next_counted.ensures.hopeless w.in-Broken.is) as (λ _. answer) [
+        | inl was ↦ inl (ap (λ (r : Reading). r.bytes.is_broken) (sym c.self.view_is) ∙ was)
+        | inr none ↦ inr (subst (λ (r : Reading). IsHopeless SpellsRequest r.bytes.held)
+            c.self.view_is (hopeless-hopeless c.self.inside.reader.bytes.held none))
+      ]
+      | in-NoMemory w ↦ (let clash = sym w.result-is ∙ is in cc)
+    ]
+
+pub returns-clause-message : goal.returns-clause-message
+returns-clause-message g c =
+    let P : Message → Type 0 = TakesCounted c.args.self.now c.next_counted.new.self
+    (c.next_counted.new.steps - c.args.steps.now) in
+    elim c.match-next_counted.branch as (λ _. IfNext c.match-next_counted.result P) [
+      | in-Message w ↦ rw w.result-is (subst (λ (r : Reading). TakesCounted r
+          c.next_counted.new.self (c.next_counted.new.steps - c.args.steps.now)
+          w.in-Message.message) c.self.view_is
+          (takes c.self.inside.reader c.next_counted.new.self
+          (c.next_counted.new.steps - c.args.steps.now) w.in-Message.message
+          (rw w.in-Message.is at c.next_counted.ensures.message)))
+      | in-More w ↦ rw w.result-is tt
+      | in-Broken w ↦ rw w.result-is tt
+      | in-NoMemory w ↦ rw w.result-is tt
+    ]

@@ -1,0 +1,272 @@
+-- The laws of requests as a kind of messages.
+use Rattle.std.proofs.Common.{◌≡◌, ℕ, ◌+◌, ◌<◌, ◌≤◌, Bool, true, false, cond, List, [], ◌∷◌, ◌++◌, length, take, map, inl, inr, Option, Some, None, refl, sym, ap, ◌∙◌, subst, arith, append-nil, length-take}
+use Rattle.std.proofs.lemmas.List.{length-map as map-length, drop_all}
+use Rattle.std.specs.Prelude.{codes}
+use Rattle.std.specs.Str.{bytes_eq}
+use Rattle.percent_encoding.specs.Percent.{percent_decode}
+use Rattle.httparse.specs.Ascii.{space}
+use Rattle.httparse.specs.Grammar.{RequestHead, print_request, print_version, print_blank, print_end, IsRequestHead as IsGrammarHead, is_uri_byte}
+use Rattle.httparse.proofs.GrammarLemmas.{request_unique}
+use Rattle.httparse.specs.Spans.{header_bytes, span_bytes}
+use Rattle.asp_base.specs.Text.{is_same_name}
+use Rattle.asp_messages.specs.declared.request.Ask.{Ask}
+use Rattle.asp_messages.specs.declared.request.Message.{Message}
+use Rattle.asp_messages.specs.declared.request.Message.TheVariants.{Unfit}
+use Rattle.asp_messages.proofs.FramingLemmas.{body_length-le}
+use Rattle.asp_messages.specs.Fields.{Field, Occurrence, absent, one, twice, once, request_fields, body_length, most_body, timeout_field, extra_flags_field, lock_cookie_field}
+use Rattle.asp_messages.specs.Head.{IsRequestHead, most_head}
+use Rattle.asp_messages.specs.RequestSpelling.{message_of, ask_of, get_ask, put_ask, delete_ask, release_ask, fit_of, is_key, SpellsRequest}
+use Rattle.asp_messages.specs.Stream.{HasNoMessage, IsHopeless, IsWaiting}
+use Rattle.message_framing.specs.declared.head_end.Phase.{Phase}
+use Rattle.message_framing.specs.declared.head_end.Phase.TheVariants.{Blank, Line, Feed}
+use Rattle.message_framing.specs.HeadEnd.{seen, EndsHead}
+use Rattle.message_framing.specs.Framed.{Framed, TakesFramed}
+use Rattle.message_framing.specs.Held.{Reading}
+use Rattle.message_framing.proofs.EndLemmas.{none-seen}
+use Rattle.message_framing.proofs.SectionLemmas.{then, in-line, in-line-one, end-line, token-line, blank-line, blank-lines, section-ends}
+use Rattle.request_reader.specs.declared.parts.RequestParts.{RequestParts}
+use Rattle.request_reader.specs.Next.{TakesCounted}
+use Rattle.request_reader.specs.Requests.{IsRequestParts, body_len_of, MeansRequest, filled, filled_ask}
+
+-- ---- where a head ends
+
+-- the version on a start line
+version-line : (minor : ℕ) → seen Line (print_version minor) ≡ Some Line
+version-line minor = in-line-one (48 + minor) (omega arith)
+
+-- a request head ends at its first empty line
+pub request-ends : (h : RequestHead) → IsGrammarHead h → EndsHead (print_request h)
+unfolding print_request
+request-ends h is =
+    let before = print_blank h.blank ++ h.method ++ space ∷ h.target ++ space
+    ∷ print_version h.minor ++ print_end h.line_end in
+    let blank = blank-lines h.blank in
+    let method = then Blank Blank Line (print_blank h.blank) h.method blank
+    (token-line Blank h.method blank-line is.method) in
+    let target = then Blank Line Line (print_blank h.blank ++ h.method) (space ∷ h.target) method
+    (in-line is_uri_byte h.target refl is.target.1) in
+    let version = then Blank Line Line (print_blank h.blank ++ h.method ++ space ∷ h.target)
+    (space ∷ print_version h.minor) target (version-line h.minor) in
+    let start = then Blank Line Feed (print_blank h.blank ++ h.method ++ space ∷ h.target ++ space
+    ∷ print_version h.minor) (print_end h.line_end) version (end-line h.line_end) in
+    section-ends before h.fields h.last start is.fields
+
+-- a head's text ends it
+pub head-ends : (text : List ℕ) (h : RequestHead) → IsRequestHead text h → EndsHead text
+head-ends text h is = subst EndsHead (sym (is.reads.1 ∙ append-nil (print_request h)))
+    (request-ends h is.reads.0)
+
+-- ---- the laws
+
+pub ends : (text body : List ℕ) (m : Message) → MeansRequest text body m
+    → EndsHead text × (length text ≤ most_head)
+ends text body m means = (head-ends text means.head means.is_head, means.is_head.short)
+
+-- the head of the parts is the only one
+one_head : (text : List ℕ) (parts : RequestParts) (h : RequestHead)
+    → (is : IsRequestParts text parts) → IsRequestHead text h → is.of.0 ≡ h
+one_head text parts h is head = (request_unique text is.of.0 h _ [] is.of.1.reads head.reads).0
+
+pub fits : (text body : List ℕ) (parts : RequestParts) (m : Message) → IsRequestParts text parts
+    → MeansRequest text body m → length body ≡ body_len_of parts
+fits text body parts m is means =
+    let same : ◌≡◌ {A = Option ℕ} (Some (length body)) (Some parts.body_len) =
+    sym means.announced ∙ ap (λ h. body_length (request_fields h))
+    (sym (one_head text parts means.head is means.is_head))
+    ∙ ap body_length (sym is.of.1.fields) ∙ is.announced in
+    cc
+
+pub short : (text : List ℕ) (parts : RequestParts) → IsRequestParts text parts
+    → body_len_of parts ≤ most_body
+short text parts is = body_length-le _ _ is.announced
+
+-- the text of the parts is a head
+pub parts-head : (text : List ℕ) (parts : RequestParts) → (is : IsRequestParts text parts)
+    → IsRequestHead text is.of.0
+parts-head text parts is =
+    let spans = parts.spans in
+    let same = simp map-length at (ap length is.of.1.fields) in
+    record {
+      reads = (
+        is.of.1.reads.0,
+        is.of.1.reads.1
+            ∙ ap (λ t. print_request is.of.0 ++ t)
+            (drop_all parts.spans.len text (omega (arith, is.whole))),
+      );
+      short = is.short;
+      few = omega (arith, same, length-take spans.headers parts.headers, is.room);
+    }
+
+pub waits_for_head : (bytes : List ℕ) (phase : Phase) → seen Blank bytes ≡ Some phase
+    → length bytes < most_head → IsWaiting IsRequestHead request_fields bytes
+waits_for_head bytes phase so room = inl (
+  (λ front back head is h. none-seen bytes front back phase
+      so (head-ends front head h) is),
+  room,
+)
+
+pub waits_for_body : (text back : List ℕ) (parts : RequestParts) → IsRequestParts text parts
+    → length back < body_len_of parts → IsWaiting IsRequestHead request_fields (text ++ back)
+waits_for_body text back parts is few = inr (record {
+  head = is.of.0;
+  front = text;
+  back = back;
+  len = parts.body_len;
+  bytes_are = refl;
+  is_head = parts-head text parts is;
+  announced = ap body_length (sym is.of.1.fields) ∙ is.announced;
+  short = few;
+})
+
+-- ---- messages
+
+pub spells-framed : (bytes : List ℕ) (m : Message) → SpellsRequest bytes m
+    → Framed MeansRequest bytes m
+spells-framed bytes m s = record {
+  text = s.framed.front;
+  body = s.body;
+  bytes_are = s.framed.bytes_are;
+  means = record {
+    head = s.head;
+    is_head = s.framed.is_head;
+    announced =
+        s.framed.announced;
+    message_is = s.message_is;
+  };
+}
+
+pub means-spells : (text body : List ℕ) (m : Message) → MeansRequest text body m
+    → SpellsRequest (text ++ body) m
+means-spells text body m means = record {
+  head = means.head;
+  body = body;
+  framed = record {
+    front = text;
+    bytes_are = refl;
+    is_head = means.is_head;
+    announced =
+        means.announced;
+  };
+  message_is = means.message_is;
+}
+
+pub none-none : (bytes : List ℕ) → HasNoMessage (Framed MeansRequest) bytes
+    → HasNoMessage SpellsRequest bytes
+none-none bytes none front back m is s = none front back m is (spells-framed front m s)
+
+pub hopeless-hopeless : (bytes : List ℕ) → IsHopeless (Framed MeansRequest) bytes
+    → IsHopeless SpellsRequest bytes
+hopeless-hopeless bytes none more = none-none (bytes ++ more) (none more)
+
+-- ---- the body is filled in
+
+filled-cond : (b : Bool) (x y : Message) (body : List ℕ)
+    → filled (cond b x y) body ≡ cond b (filled x body) (filled y body)
+filled-cond true x y body = refl
+filled-cond false x y body = refl
+
+filled_option : Option Ask → List ℕ → Option Ask
+filled_option None body = None
+filled_option (Some ask) body = Some (filled_ask ask body)
+
+filled-fit : (key : List ℕ) (o : Option Ask) (body : List ℕ)
+    → filled (fit_of key o) body ≡ fit_of key (filled_option o body)
+unfolding filled_option
+filled-fit key None body = refl
+filled-fit key (Some ask) body = refl
+
+option-cond : (b : Bool) (x y x' y' : Option Ask) (body : List ℕ) → filled_option x body ≡ x'
+    → filled_option y body ≡ y' → filled_option (cond b x y) body ≡ cond b x' y'
+option-cond true x y x' y' body e f = e
+option-cond false x y x' y' body e f = f
+
+release-filled : (cookie : Option ℕ) (body : List ℕ)
+    → filled_option (release_ask cookie) body ≡ release_ask cookie
+unfolding filled_option
+release-filled None body = refl
+release-filled (Some cookie) body = refl
+
+get-filled : (s : Occurrence) (cookie : Option ℕ) (body : List ℕ)
+    → filled_option (get_ask s cookie) body ≡ get_ask s cookie
+unfolding filled_option
+get-filled absent cookie body = refl
+get-filled (one word) cookie body =
+    option-cond (is_same_name word (codes "acquire")) _ _ _ _ body refl
+    (option-cond (is_same_name word (codes "release")) _ _ _ _ body (release-filled cookie body)
+    refl)
+get-filled twice cookie body = refl
+
+put-filled : (minutes flag cookie : Option ℕ) (body : List ℕ)
+    → filled_option (put_ask [] minutes flag cookie) body ≡ put_ask body minutes flag cookie
+unfolding filled_option
+put-filled (Some m) (Some f) (Some k) body = refl
+put-filled (Some m) (Some f) None body = refl
+put-filled (Some m) None k body = refl
+put-filled None f k body = refl
+
+delete-filled : (cookie : Option ℕ) (body : List ℕ)
+    → filled_option (delete_ask cookie) body ≡ delete_ask cookie
+unfolding filled_option
+delete-filled None body = refl
+delete-filled (Some cookie) body = refl
+
+ask-filled : (verb : List ℕ) (fields : List Field) (body : List ℕ)
+    → filled_option (ask_of verb fields []) body ≡ ask_of verb fields body
+unfolding ask_of filled_option
+ask-filled verb fields body =
+    option-cond (bytes_eq verb (codes "GET")) _ _ _ _ body
+    (get-filled (once fields (codes "Exclusive")) _ body)
+    (option-cond (bytes_eq verb (codes "PUT")) _ _ _ _ body
+    (put-filled (timeout_field fields) (extra_flags_field fields) (lock_cookie_field fields)
+    body)
+    (option-cond (bytes_eq verb (codes "DELETE")) _ _ _ _ body
+    (delete-filled (lock_cookie_field fields) body)
+    (option-cond (bytes_eq verb (codes "HEAD")) _ _ _ _ body refl refl)))
+
+pub message-filled : (verb target : List ℕ) (fields : List Field) (body : List ℕ)
+    → filled (message_of verb target fields []) body ≡ message_of verb target fields body
+unfolding message_of
+message-filled verb target fields body =
+    filled-cond (is_key (percent_decode target))
+    (fit_of (percent_decode target) (ask_of verb fields [])) Unfit body
+    ∙ ap (λ m. cond (is_key (percent_decode target)) m Unfit)
+    (filled-fit (percent_decode target) (ask_of verb fields []) body
+    ∙ ap (fit_of (percent_decode target)) (ask-filled verb fields body))
+
+-- the message of a head's parts, with its body still to come
+pub begins : (text : List ℕ) (parts : RequestParts) (m : Message) → IsRequestParts text parts
+    → m ≡ message_of (span_bytes text parts.spans.method) (span_bytes text parts.spans.path)
+    (map (header_bytes text) (take parts.spans.headers parts.headers)) []
+    → (body : List ℕ) → length body ≡ parts.body_len → MeansRequest text body (filled m body)
+begins text parts m is says body len =
+    let head = is.of.0 in
+    let at = is.of.1 in
+    let fields = map (header_bytes text) (take parts.spans.headers parts.headers) in
+    record {
+      head = head;
+      is_head = parts-head text parts is;
+      announced = ap body_length (sym at.fields) ∙ is.announced ∙ ap Some (sym len);
+      message_is =
+          ap (λ k. filled k body) says ∙ message-filled (span_bytes text parts.spans.method)
+          (span_bytes text parts.spans.path) fields body
+          ∙ ap (λ verb. message_of verb (span_bytes text parts.spans.path) fields body) at.method
+          ∙ ap (λ target. message_of head.method target fields body) at.path
+          ∙ ap (λ fs. message_of head.method head.target fs body) at.fields;
+    }
+
+-- ---- what was taken
+
+pub takes : (old new : Reading) (ticks : ℕ) (m : Message) → TakesFramed MeansRequest old new ticks m
+    → TakesCounted old new ticks m
+unfolding means-spells
+takes old new ticks m t = record {
+  taken = record {
+    front = t.text ++ t.body;
+    spells = means-spells t.text t.body m t.means;
+    held =
+        t.held;
+    whole = t.whole;
+  };
+  counted = t.counted;
+  forgotten = t.forgotten;
+}

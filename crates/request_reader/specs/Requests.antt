@@ -1,0 +1,47 @@
+-- What the head of a request means.
+use Rattle.std.specs.Prelude.{◌≡◌, ℕ, ◌≤◌, List, length, take, map, Some}
+use Rattle.httparse.specs.Grammar.{RequestHead}
+use Rattle.httparse.specs.Spans.{header_bytes, IsRequestWithin, IsRequestOf}
+use Rattle.asp_messages.specs.declared.request.Ask.{Ask}
+use Rattle.asp_messages.specs.declared.request.Ask.TheVariants.{Read, Acquire, Release, Write, Remove, Reset}
+use Rattle.asp_messages.specs.declared.request.Message.{Message}
+use Rattle.asp_messages.specs.declared.request.Message.TheVariants.{Fit, Unfit}
+use Rattle.asp_messages.specs.Fields.{request_fields, body_length}
+use Rattle.asp_messages.specs.Head.{IsRequestHead, most_head}
+use Rattle.asp_messages.specs.RequestSpelling.{message_of}
+use Rattle.request_reader.specs.declared.parts.RequestParts.{RequestParts}
+
+-- The text is a head, these are its parts, and its body has the length that it announces.
+pub record IsRequestParts (text : List ℕ) (parts : RequestParts) : Type 0 where
+  pub within : IsRequestWithin text parts.headers parts.spans
+  pub of : IsRequestOf text parts.headers parts.spans
+  pub whole : parts.spans.len ≡ length text
+  pub short : length text ≤ most_head
+  pub room : length parts.headers ≤ 64
+  pub announced : body_length (map (header_bytes text) (take parts.spans.headers parts.headers))
+      ≡ Some parts.body_len
+
+-- the length of the body that the parts announce
+abbrev pub body_len_of : RequestParts → ℕ
+body_len_of parts = parts.body_len
+
+-- The text is a request head that announces this body, and they say the message.
+pub record MeansRequest (text body : List ℕ) (m : Message) : Type 0 where
+  pub head : RequestHead
+  pub is_head : IsRequestHead text head
+  pub announced : body_length (request_fields head) ≡ Some (length body)
+  pub message_is : m ≡ message_of head.method head.target (request_fields head) body
+
+-- the ask with this body
+abbrev pub filled_ask : Ask → List ℕ → Ask
+filled_ask (Write old minutes fresh cookie) body = Write body minutes fresh cookie
+filled_ask Read body = Read
+filled_ask Acquire body = Acquire
+filled_ask (Release cookie) body = Release cookie
+filled_ask (Remove cookie) body = Remove cookie
+filled_ask Reset body = Reset
+
+-- the message with this body
+abbrev pub filled : Message → List ℕ → Message
+filled (Fit request) body = Fit (record { key = request.key; ask = filled_ask request.ask body })
+filled Unfit body = Unfit

@@ -1,0 +1,38 @@
+//! How often a reader looks at the bytes of a head.
+use asp_base::NoMemory;
+use request_reader::{Next, RequestReader};
+use std::alloc::Global;
+use std::test::Fail;
+
+/// Two requests in 58 bytes, with heads of 38 and of 19 bytes.
+const TWO: &[u8] = b"PUT /a HTTP/1.1\r\nContent-Length: 1\r\n\r\nxGET /a HTTP/1.1\r\n\r\n";
+
+/// The messages of a text that is fed byte by byte, and the most that the reader had spent.
+fn course_of(alloc: Global, text: &[u8]) -> Result<(usize, u64), NoMemory> {
+    let mut reader = RequestReader::new(alloc);
+    let mut messages: usize = 0;
+    let mut most = 0;
+    for piece in text.chunks(1) {
+        reader.feed(piece)?;
+        match reader.next() {
+            Next::Message(_) => {
+                messages = messages.saturating_add(1);
+                if !matches!(reader.next(), Next::More) {
+                    return Ok((messages, most));
+                }
+            }
+            Next::More | Next::Broken => {}
+            Next::NoMemory => return Err(NoMemory),
+        }
+        most = most.max(reader.spent());
+    }
+    Ok((messages, most))
+}
+
+#[test]
+fn each_byte_of_a_head_is_looked_at_twice_at_most(rt: HostRuntime) -> Result<(), Fail> {
+    let alloc = rt.alloc();
+    assert_eq!(rt; course_of(alloc, TWO)?, (2, 76));
+    assert_eq!(rt; course_of(alloc, &[b'a'; 8192])?, (0, 8192));
+    Ok(())
+}
