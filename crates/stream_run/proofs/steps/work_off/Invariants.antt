@@ -1,0 +1,16 @@
+use Rattle.std.proofs.Common.{◌≤◌, ◌++◌, List, ℕ}
+use Rattle.asp_base.specs.Outside.{Takes}
+use Rattle.stream_run.specs.Feeding.{Follows, IsShort}
+use Rattle.stream_run.proofs.steps.work_off.Given as goal
+
+abbrev pub invariant-steps : goal.invariant-steps
+invariant-steps g l = record {
+  goes : (given : List ℕ) × Takes (g.T.Sink.taken l.fn.sink) (g.T.Sink.taken l.sink) given
+      × Follows g.C.Consumer.went l.fn.consumer
+          (λ first taken due. g.C.Consumer.went first l.consumer taken (due ++ given));
+  short : IsShort g.C.Consumer.went l.consumer 0;
+  faults : g.T.Sink.faults l.fn.sink ≤ g.T.Sink.faults l.sink;
+}
+
+abbrev pub decreases-steps : goal.decreases-steps
+decreases-steps g l = g.C.Consumer.work l.consumer

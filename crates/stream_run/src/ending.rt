@@ -1,0 +1,44 @@
+//! How a run ends, and the exit status of that.
+ghost use Rattle.std.specs.Prelude.{◌≡◌, ℕ};
+ghost use Rattle.stream_run.specs.Status.{status_number};
+
+/// How a run ends. The first of these in time decides.
+#[derive(Clone, Copy, Debug, PartialEq, Eq)]
+pub enum End<V> {
+    /// The consumer is over, with this verdict.
+    Over(V),
+    /// The source failed.
+    ReadFault,
+    /// The sink failed.
+    WriteFault,
+    /// There was no memory.
+    NoMemory,
+    /// The most bytes were taken, and the consumer is not over.
+    Long,
+}
+
+/// What a consumer finds, and the exit status that tells it.
+pub trait Status: Drop {
+    /// The exit status.
+    ghost number: { Self → ℕ };
+
+    /// The exit status.
+    fn number(&self) -> u8
+        ensures { result ≡ number self.now };
+}
+
+impl<V: Status> End<V> {
+    /// The exit status: the verdict's, or 4 where the source failed, 5 where the sink failed, 6
+    /// where memory was wanting, 7 where the most bytes were taken.
+    pub fn status(&self) -> u8
+        ensures { result ≡ status_number V.number self.now }
+    {
+        match self {
+            End::Over(verdict) => verdict.number(),
+            End::ReadFault => 4,
+            End::WriteFault => 5,
+            End::NoMemory => 6,
+            End::Long => 7,
+        }
+    }
+}

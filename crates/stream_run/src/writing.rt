@@ -1,0 +1,78 @@
+//! What a consumer gave, on a sink.
+ghost use Rattle.std.specs.Prelude.{◌≡◌, ◌<◌, ◌++◌, OnOk, OnErr, IfSome, length};
+ghost use Rattle.asp_base.specs.Causes.{HasCause};
+ghost use Rattle.asp_base.specs.Outside.{Takes, TakesFront};
+
+use crate::Consumer;
+use arrayvec::ArrayVec;
+use asp_base::{Failed, Sink, write_whole};
+
+/// The most bytes of two parts that are written in one call.
+const MOST_AT_ONCE: usize = 1024;
+
+/// The two parts in one text, where they are short.
+fn joined(head: &[u8], body: &[u8]) -> Option<ArrayVec<u8, MOST_AT_ONCE>>
+    ensures { IfSome result (λ text. text.items ≡ head.now ++ body.now) }
+{
+    let mut text = ArrayVec::new();
+    text.try_extend_from_slice(head).ok()?;
+    text.try_extend_from_slice(body).ok()?;
+    Some(text)
+}
+
+fn write_apart<T: Sink>(sink: &mut T, head: &[u8], body: &[u8]) -> Result<(), Failed>
+    ensures taken { OnOk result (Takes (T.taken sink.old) (T.taken sink.new) (head.now ++ body.now))
+        }
+    ensures in_part { OnErr result
+        (TakesFront (T.taken sink.old) (T.taken sink.new) (head.now ++ body.now)) }
+    ensures cause { HasCause (T.faults sink.old) (T.faults sink.new) result }
+{
+    write_whole(sink, head)?;
+    write_whole(sink, body)
+}
+
+/// Writes a head and then a body that is not empty, both in one call of the sink where they are
+/// short.
+fn write_both<T: Sink>(sink: &mut T, head: &[u8], body: &[u8]) -> Result<(), Failed>
+    ensures taken { OnOk result (Takes (T.taken sink.old) (T.taken sink.new) (head.now ++ body.now))
+        }
+    ensures in_part { OnErr result
+        (TakesFront (T.taken sink.old) (T.taken sink.new) (head.now ++ body.now)) }
+    ensures cause { HasCause (T.faults sink.old) (T.faults sink.new) result }
+{
+    match joined(head, body) {
+        Some(text) => write_whole(sink, text.as_slice()),
+        None => write_apart(sink, head, body),
+    }
+}
+
+/// Writes a text that is not split, where there is any.
+fn write_one<T: Sink>(sink: &mut T, text: &[u8]) -> Result<(), Failed>
+    ensures taken { OnOk result (Takes (T.taken sink.old) (T.taken sink.new) text.now) }
+    ensures in_part { OnErr result (TakesFront (T.taken sink.old) (T.taken sink.new) text.now) }
+    ensures some { OnErr result (0 < length text.now) }
+    ensures cause { HasCause (T.faults sink.old) (T.faults sink.new) result }
+{
+    if text.is_empty() {
+        return Ok(());
+    }
+    write_whole(sink, text)
+}
+
+/// Writes what the consumer gave last, where there is any; it takes no memory. After `Failed` a
+/// front of it was taken.
+pub fn write_given<C: Consumer, T: Sink>(consumer: &C, sink: &mut T) -> Result<(), Failed>
+    ensures taken { OnOk result
+        (Takes (T.taken sink.old) (T.taken sink.new) (C.head consumer.now ++ C.body consumer.now)) }
+    ensures in_part { OnErr result
+        (TakesFront (T.taken sink.old) (T.taken sink.new)
+            (C.head consumer.now ++ C.body consumer.now)) }
+    ensures some { OnErr result (0 < length (C.head consumer.now ++ C.body consumer.now)) }
+    ensures cause { HasCause (T.faults sink.old) (T.faults sink.new) result }
+{
+    let body = consumer.body();
+    if body.is_empty() {
+        return write_one(sink, consumer.head());
+    }
+    write_both(sink, consumer.head(), body)
+}
