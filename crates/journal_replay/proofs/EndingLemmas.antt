@@ -1,9 +1,7 @@
 -- A replay from its beginning to its end.
-use Rattle.std.proofs.Common.{◌≡◌, ℕ, ◌+◌, ◌<◌, ◌≤◌, ◌^◌, List, [], ◌++◌, length, Option, Some, None, false, refl, sym, ap, ◌∙◌, arith, append-nil, length-append, subst, inl, inr}
-use Rattle.std.specs.Prelude.{◌⊎◌, ◌≢◌}
-use Rattle.std.proofs.lemmas.List.Elements.{All-nil}
-use Rattle.asp_base.specs.Outside.{Gives, IsAtEnd, Takes}
-use Rattle.asp_base.proofs.OutsideLemmas.{Gives-nil, Gives-trans}
+use Rattle.std.proofs.Common.{◌≡◌, ℕ, ◌+◌, ◌<◌, ◌≤◌, ◌^◌, List, [], ◌++◌, length, take, Option, Some, None, Bool, refl, sym, ap, ◌∙◌, arith, append-nil, length-append, subst, inl, inr}
+use Rattle.std.specs.Prelude.{◌⊎◌}
+use Rattle.asp_base.specs.Outside.{Gives, IsAtEnd, Takes, TakesFront}
 use Rattle.lock_laws.proofs.LawLemmas.{LocksHold-of_legal}
 use Rattle.session_machine.specs.declared.entry.Entry.{Entry}
 use Rattle.session_machine.specs.History.{nothing}
@@ -15,244 +13,210 @@ use Rattle.journal_text.specs.Judging.{Judges}
 use Rattle.journal_text.specs.Reading.{Reading, new_reader, Taken, IsJournalOf, StopsAt, HasRead}
 use Rattle.journal_text.specs.Verdict.{judgement_line}
 use Rattle.journal_text.proofs.JournalLemmas.{journal_one, journal_stops}
-use Rattle.journal_replay.proofs.LineLemmas.{held_fits, lines_of}
-use Rattle.journal_replay.specs.declared.endings.End.{End}
-use Rattle.journal_replay.specs.declared.endings.End.TheVariants as ends
-use Rattle.journal_replay.specs.declared.lines.Replaying.{Replaying}
-use Rattle.journal_replay.specs.Progress.{Checks, HasReplayed, HasLine, IsShort, GoesOn, Running, StopsFor, Tells, Waits, end_of}
-use Rattle.journal_replay.specs.Replay.{EndsAs, GivesLocks, InputStopsAt, IsAll, IsDue, IsJudged, IsReplay, IsStatusOf, TellsJournal, TellsNoJournal, status_number, stop_line}
+use Rattle.journal_replay.proofs.LineLemmas.{lines_of}
+use Rattle.journal_replay.specs.declared.verdict.Verdict.{Verdict}
+use Rattle.journal_replay.specs.declared.verdict.Verdict.TheVariants as verdicts
+use Rattle.journal_replay.specs.declared.replayer.Replayer.{Replayer}
+use Rattle.journal_replay.specs.Progress.{Breaks, Checks, Closes, Finds, Gave, HasReplayed, Lacks, Waits, Went, verdict_of}
+use Rattle.journal_replay.specs.Replay.{End, EndsAs, GivesLocks, InputStopsAt, IsAll, IsDue, IsJudged, IsReplay, IsStatusOf, TellsJournal, TellsNoJournal, status_number, stop_line, verdict_number}
+use Rattle.stream_run.specs.declared.consumer.Consumer.{Ghosts}
+use Rattle.stream_run.specs.declared.ending.End.TheVariants as ends
+use Rattle.stream_run.specs.Ending.{Ended, IsOver, IfFewer, IsComplete}
+use Rattle.stream_run.specs.Flow.{Flow, flow}
 
 -- ---- what is found at the end of the input
 
-locks_of : (judgement : Judgement) (place : ℕ) (list : List Entry) → Judges place list judgement → GivesLocks judgement list
+locks_of : (judgement : Judgement) (place : ℕ) (list : List Entry) → Judges place list judgement
+    → GivesLocks judgement list
 locks_of (Legal entries) place list judges = LocksHold-of_legal nothing 0 list judges.0
 locks_of (Illegal at why) place list judges = tt
 
-judged_of : (bytes : List ℕ) (checker : Checked) (judgement : Judgement) (taken : Taken) → IsJournalOf bytes taken → Checks taken checker
-    → ((list : List Entry) → HasTaken checker list → Judges checker.first list judgement) → IsJudged bytes judgement
+judged_of : (bytes : List ℕ) (checker : Checked) (judgement : Judgement) (taken : Taken)
+    → IsJournalOf bytes taken → Checks taken checker
+    → ((list : List Entry) → HasTaken checker list → Judges checker.first list judgement)
+        → IsJudged bytes judgement
 judged_of bytes checker judgement None journal checks judges = absurd journal
 judged_of bytes checker judgement (Some t) journal checks judges =
     let judged = subst (λ p. Judges p t.1 judgement) checks.0 (judges t.1 checks.1) in
-    record { place = t.0; list = t.1; journal = journal; judges = judged; locks = locks_of judgement t.0 t.1 judged }
+    record { place = t.0; list = t.1; journal = journal; judges = judged; locks =
+        locks_of judgement t.0 t.1 judged }
 
--- the line of a judgement is due where its journal is the whole input
-due_judged : (judgement : Judgement) (source' : Option (List ℕ × List ℕ)) (bytes : List ℕ) (most : ℕ) → IsAll source' bytes most → IsJudged bytes judgement
-    → IsDue (end_of judgement) source' bytes most (judgement_line judgement)
-due_judged (Legal entries) source' bytes most all judged = (all, (entries, judged, refl))
-due_judged (Illegal place why) source' bytes most all judged = (all, (place, why, judged, refl))
+-- what the judgement finds, with its line
+pub finds_judged : (judgement : Judgement) (verdict : Verdict) (bytes : List ℕ) (reader : Reading)
+    (checker : Checked) (line : List ℕ)
+    → ((text : List ℕ) (taken : Taken) → HasRead text taken reader → IsJournalOf text taken)
+    → ((list : List Entry) → HasTaken checker list → Judges checker.first list judgement)
+    → verdict ≡ verdict_of judgement → line ≡ judgement_line judgement
+        → HasReplayed bytes reader checker → Finds verdict bytes line
+finds_judged judgement verdict bytes reader checker line journal judges is line_is has =
+    subst (λ v. Finds v bytes line) (sym is)
+    (finds judgement (judged_of bytes checker judgement has.taken (journal bytes has.taken has.read)
+        has.checks judges) line_is)
+  where
+    finds : (judgement : Judgement) → IsJudged bytes judgement → line ≡ judgement_line judgement
+        → Finds (verdict_of judgement) bytes line
+    finds (Legal entries) judged line_is = (entries, judged, line_is)
+    finds (Illegal place why) judged line_is = (place, why, judged, line_is)
 
--- a line that was due was written, or a front of it, or there was no memory for it
-pub ends_told : (due end : End) (source' : Option (List ℕ × List ℕ)) (sink sink' : Option (List ℕ)) (bytes : List ℕ) (most : ℕ) (line : List ℕ)
-    → IsDue due source' bytes most line → Tells due line end sink sink' → EndsAs end source' sink sink' bytes most
-ends_told due ends.Legal source' sink sink' bytes most line is told = (line, subst (λ d. IsDue d source' bytes most line) (sym told.0) is, told.1)
-ends_told due ends.Illegal source' sink sink' bytes most line is told = (line, subst (λ d. IsDue d source' bytes most line) (sym told.0) is, told.1)
-ends_told due ends.NotAJournal source' sink sink' bytes most line is told = (line, subst (λ d. IsDue d source' bytes most line) (sym told.0) is, told.1)
-ends_told due ends.ReadFault source' sink sink' bytes most line is told = absurd (subst (λ d. IsDue d source' bytes most line) (sym told.0) is)
-ends_told due ends.WriteFault source' sink sink' bytes most line is told = (due, line, is, told)
-ends_told due ends.NoMemory source' sink sink' bytes most line is told = told
-ends_told due ends.Long source' sink sink' bytes most line is told = absurd (subst (λ d. IsDue d source' bytes most line) (sym told.0) is)
+-- ---- a run of the consumer is a replay
 
-pub ends_judged : (r : Replaying) (judgement : Judgement) (end : End) (sink sink' : Option (List ℕ))
-    → ((text : List ℕ) (taken : Taken) → HasRead text taken r.reader → IsJournalOf text taken)
-    → ((list : List Entry) → HasTaken r.checker list → Judges r.checker.first list judgement)
-    → Tells (end_of judgement) (judgement_line judgement) end sink sink'
-    → (source' : Option (List ℕ × List ℕ)) (bytes : List ℕ) (most : ℕ) → IsAll source' bytes most → HasReplayed bytes r → EndsAs end source' sink sink' bytes most
-ends_judged r judgement end sink sink' journal judges told source' bytes most all has =
-    let judged = judged_of bytes r.checker judgement has.taken (journal bytes has.taken has.read) has.checks judges in
-    ends_told (end_of judgement) end source' sink sink' bytes most (judgement_line judgement) (due_judged judgement source' bytes most all judged) told
-
-pub ends_stopped : (r : Replaying) (offset : ℕ) (end : End) (sink sink' : Option (List ℕ))
-    → ((text : List ℕ) (taken : Taken) → HasRead text taken r.reader → StopsAt text offset)
-    → Tells ends.NotAJournal (stop_line offset) end sink sink'
-    → (source' : Option (List ℕ × List ℕ)) (bytes : List ℕ) (most : ℕ) → IsAll source' bytes most → HasReplayed bytes r → EndsAs end source' sink sink' bytes most
-ends_stopped r offset end sink sink' stops told source' bytes most all has =
-    ends_told ends.NotAJournal end source' sink sink' bytes most (stop_line offset) (offset, inl (all, stops bytes has.taken has.read), refl) told
-
--- ---- the line
-
-pub tells_whole : (due : End) (line : List ℕ) (sink sink' : Option (List ℕ)) → HasLine due → Takes sink sink' line → Tells due line due sink sink'
-tells_whole ends.Legal line sink sink' has takes = (refl, takes)
-tells_whole ends.Illegal line sink sink' has takes = (refl, takes)
-tells_whole ends.NotAJournal line sink sink' has takes = (refl, takes)
-tells_whole ends.ReadFault line sink sink' has takes = absurd has
-tells_whole ends.WriteFault line sink sink' has takes = absurd has
-tells_whole ends.NoMemory line sink sink' has takes = absurd has
-tells_whole ends.Long line sink sink' has takes = absurd has
-
--- the ending of a judgement comes with its line
-pub judgement_has_line : (judgement : Judgement) (end : End) → end ≡ end_of judgement → HasLine end
-judgement_has_line (Legal entries) end is = subst HasLine (sym is) tt
-judgement_has_line (Illegal place why) end is = subst HasLine (sym is) tt
-
--- only a read fails so
-pub tells_no_read : (due end : End) (line : List ℕ) (sink sink' : Option (List ℕ)) → HasLine due → Tells due line end sink sink' → end ≡ ends.ReadFault → ⊥
-tells_no_read due end line sink sink' has told is =
-    let wrong : Tells due line ends.ReadFault sink sink' = subst (λ e. Tells due line e sink sink') is told in
-    subst HasLine (sym wrong.0) has
-
--- ---- the loop
-
-pub Waits-new : (r : Reading) → r ≡ new_reader → Waits r
-Waits-new r is = subst Waits (sym is) (record { may_feed = refl; whole = refl; unfinished = All-nil (λ b. b ≢ 10); short = omega arith })
-
-pub Running-start : (most : ℕ) (source : Option (List ℕ × List ℕ)) (r : Replaying) → HasRead [] None r.reader → Running most source source r most
-Running-start most source r read = record {
-  bytes = [];
-  given = Gives-nil source;
-  replayed = record { taken = None; read = read; checks = tt };
-  left_is = omega arith;
+abbrev pub ghosts : Ghosts Replayer Verdict
+ghosts = record {
+  went = Went;
+  waits = λ more now. Waits now.reader;
+  gave = Gave;
+  breaks = Breaks;
+  closes = Closes;
+  lacks = Lacks;
+  work = λ now. length now.reader.held;
+  head = λ now. now.line.items;
+  body = λ now. [];
 }
 
--- a piece more
-pub Running-fed : (most : ℕ) (source source' source'' : Option (List ℕ × List ℕ)) (r : Replaying) (reader : Reading) (piece : List ℕ) (left left' : ℕ)
-    → Running most source source' r left → Gives source' source'' piece
-    → ((text : List ℕ) (taken : Taken) → HasRead text taken r.reader → HasRead (text ++ piece) taken reader) → left' + length piece ≡ left
-    → Running most source source'' (record { reader = reader; checker = r.checker }) left'
-Running-fed most source source' source'' r reader piece left left' run gives reads less = record {
-  bytes = run.bytes ++ piece;
-  given = Gives-trans source source' source'' run.bytes piece run.given gives;
-  replayed = record { taken = run.replayed.taken; read = reads run.bytes run.replayed.taken run.replayed.read; checks = run.replayed.checks };
-  left_is = omega (arith, run.left_is, length-append run.bytes piece);
-}
+nothing_taken : (sink sink' : Option (List ℕ)) → Takes sink sink' [] → sink' ≡ sink
+nothing_taken None None takes = refl
+nothing_taken None (Some new) takes = absurd takes
+nothing_taken (Some old) None takes = absurd takes
+nothing_taken (Some old) (Some new) takes = ap Some (takes ∙ append-nil old)
 
--- and the lines that are whole with it
-pub Running-on : (most : ℕ) (source source' : Option (List ℕ × List ℕ)) (r r' : Replaying) (left : ℕ) → Running most source source' r left → GoesOn r r'
-    → Running most source source' r' left
-Running-on most source source' r r' left run goes = record {
-  bytes = run.bytes;
-  given = run.given;
-  replayed = goes run.bytes run.replayed;
-  left_is = run.left_is;
-}
+module _ (most : ℕ) (first now : Replayer) (source' : Option (List ℕ
+    × List ℕ)) (sink sink' : Option (List ℕ)) (bytes : List ℕ) where
+  -- what a replay is over with is due, and nothing was written before it
+  due_of : (verdict : Verdict) (whole last : List ℕ)
+      → IsOver ghosts most first now source' bytes verdict whole last → (whole ≡ [])
+          × IsDue verdict source' bytes most last
+  due_of verdicts.Legal whole last (inl (closes, end, some)) = (closes.0, ((end, some), closes.1))
+  due_of verdicts.Illegal whole last (inl (closes, end, some)) = (closes.0, ((end, some), closes.1))
+  due_of verdicts.NotAJournal whole last (inl (closes, end, some)) =
+      (closes.0, (closes.1.0, inl ((end, some), closes.1.1), closes.1.2))
+  due_of verdicts.Legal whole last (inr (more, breaks, room)) = absurd breaks
+  due_of verdicts.Illegal whole last (inr (more, breaks, room)) = absurd breaks
+  due_of verdicts.NotAJournal whole last (inr (more, breaks, room)) =
+      (breaks.0, (breaks.1.0, inr breaks.1.1, breaks.1.2))
 
-pub Running-short : (most : ℕ) (source source' : Option (List ℕ × List ℕ)) (r : Replaying) (left : ℕ) → most ≤ 2 ^ 40 → Running most source source' r left → IsShort r
-Running-short most source source' r left fits run = (run.bytes, run.replayed, omega (arith, run.left_is, fits))
+  -- nothing stands before the last line
+  last_only : (whole last : List ℕ) → whole ≡ [] → Takes sink sink' (whole ++ last)
+      → Takes sink sink' last
+  last_only whole last none wrote = subst (λ w. Takes sink sink' (w ++ last)) none wrote
 
-pub Running-held : (most : ℕ) (source source' : Option (List ℕ × List ℕ)) (r : Replaying) (left : ℕ) → most ≤ 2 ^ 40 → Running most source source' r left → r.reader.is_broken ≡ false
-    → r.reader.offset + length r.reader.held ≤ 2 ^ 40
-Running-held most source source' r left fits run whole =
-    let held = held_fits run.bytes run.replayed.taken r.reader run.replayed.read whole in
-    omega (arith, held, run.left_is, fits)
+  last_front : (whole last : List ℕ) (n : ℕ) → whole ≡ [] → n ≤ length last
+      → Takes sink sink' (whole ++ take n last) → TakesFront sink sink' last
+  last_front whole last n none le wrote = (n, le, last_only whole (take n last) none wrote)
 
--- ---- endings
+  none_taken : (due : List ℕ) → due ≡ [] → Takes sink sink' due → sink' ≡ sink
+  none_taken due none wrote = nothing_taken sink sink' (subst (Takes sink sink') none wrote)
 
--- it ended behind what was read
-replay-now : (most : ℕ) (source source' : Option (List ℕ × List ℕ)) (sink sink' : Option (List ℕ)) (r : Replaying) (left : ℕ) (end : End)
-    → (run : Running most source source' r left) → EndsAs end source' sink sink' run.bytes most → IsReplay most source source' sink sink' end
-replay-now most source source' sink sink' r left end run ends = record { bytes = run.bytes; given = run.given; within = omega (arith, run.left_is); ends = ends }
+module _ (most : ℕ) (first now : Replayer) (source source' : Option (List ℕ × List ℕ))
+    (sink sink' : Option (List ℕ))
+  where
+  ends_of : (end : End) (run : Ended ghosts most first now (flow source source' sink sink') end)
+      → EndsAs end source' sink sink' run.taken most
+  ends_of (ends.Over verdict) run =
+      let (whole, last, over, wrote) = run.ends in
+      let due = due_of most first now source' sink sink' run.taken verdict whole last over in
+      (last, due.1, last_only most first now source' sink sink' run.taken whole last due.0 wrote)
+  ends_of ends.ReadFault run =
+      let (due, went, waits, some, wrote) = run.ends in
+      (lines_of run.taken now.reader now.checker went.0 waits, some,
+       none_taken most first now source' sink sink' run.taken due went.1 wrote)
+  ends_of ends.WriteFault run =
+      in_part run.ends.0 run.ends.1 run.ends.2 run.ends.3 run.ends.4 run.ends.5 run.ends.6
+    where
+      in_part : (whole last : List ℕ) (n : ℕ)
+          → ((verdict : Verdict)
+              × IsOver ghosts most first now source' run.taken verdict whole last)
+            ⊎ (last ≡ [])
+          → 0 < length last → n ≤ length last → Takes sink sink' (whole ++ take n last)
+          → EndsAs ends.WriteFault source' sink sink' run.taken most
+      in_part whole last n (inl (verdict, over)) some le wrote =
+          let due = due_of most first now source' sink sink' run.taken verdict whole last over in
+          (verdict, last, due.1,
+           last_front most first now source' sink sink' run.taken whole last n due.0 le wrote)
+      in_part whole last n (inr none) some le wrote =
+          absurd (let none_long = ap length none in let wrong : ⊥ =
+              omega (arith, none_long, some) in wrong)
+  ends_of ends.NoMemory run =
+      none_taken most first now source' sink sink' run.taken run.ends.0 run.ends.1 run.ends.2
+  ends_of ends.Long run =
+      let (due, went, waits, all, wrote) = run.ends in
+      (lines_of run.taken now.reader now.checker went.0 waits, all,
+       none_taken most first now source' sink sink' run.taken due went.1 wrote)
 
--- the source gave nothing more, and it ended
-replay-then : (most : ℕ) (source source' source'' : Option (List ℕ × List ℕ)) (sink sink' : Option (List ℕ)) (r : Replaying) (left : ℕ) (end : End)
-    → (run : Running most source source' r left) → Gives source' source'' [] → EndsAs end source'' sink sink' run.bytes most → IsReplay most source source'' sink sink' end
-replay-then most source source' source'' sink sink' r left end run gives ends = record {
-  bytes = run.bytes;
-  given = subst (Gives source source'') (append-nil run.bytes) (Gives-trans source source' source'' run.bytes [] run.given gives);
-  within = omega (arith, run.left_is);
-  ends = ends;
-}
-
-module _ (most : ℕ) (source source' : Option (List ℕ × List ℕ)) (r : Replaying) (left : ℕ) (run : Running most source source' r left) where
-  -- the most bytes were taken
-  pub ended-long : (sink sink' : Option (List ℕ)) → sink' ≡ sink → Waits r.reader → left ≡ 0 → IsReplay most source source' sink sink' ends.Long
-  ended-long sink sink' kept waits none =
-      replay-now most source source' sink sink' r left ends.Long run (lines_of run.bytes r run.replayed waits, omega (arith, run.left_is, none), kept)
-
-  -- the source failed, and gave nothing
-  pub ended-read : (source'' : Option (List ℕ × List ℕ)) (sink sink' : Option (List ℕ)) → sink' ≡ sink → Waits r.reader → 0 < left → Gives source' source'' []
-      → IsReplay most source source'' sink sink' ends.ReadFault
-  ended-read source'' sink sink' kept waits some gives =
-      replay-then most source source' source'' sink sink' r left ends.ReadFault run gives (lines_of run.bytes r run.replayed waits, omega (arith, run.left_is, some), kept)
-
-  -- there was no memory for a piece
-  pub ended-unfed : (source'' : Option (List ℕ × List ℕ)) (sink sink' : Option (List ℕ)) → sink' ≡ sink → (piece : List ℕ) → Gives source' source'' piece → length piece ≤ left
-      → IsReplay most source source'' sink sink' ends.NoMemory
-  ended-unfed source'' sink sink' kept piece gives fits = record {
-    bytes = run.bytes ++ piece;
-    given = Gives-trans source source' source'' run.bytes piece run.given gives;
-    within = omega (arith, run.left_is, fits, length-append run.bytes piece);
-    ends = kept;
+  pub replay_of : (end : End) → Ended ghosts most first now (flow source source' sink sink') end
+      → IsReplay most source source' sink sink' end
+  replay_of end run = record {
+    bytes = run.taken;
+    given = run.given;
+    within = run.within;
+    ends = ends_of end run;
   }
 
-  -- there was no memory for an entry
-  pub ended-no_memory : (sink sink' : Option (List ℕ)) → sink' ≡ sink → IsReplay most source source' sink sink' ends.NoMemory
-  ended-no_memory sink sink' kept = replay-now most source source' sink sink' r left ends.NoMemory run kept
+-- ---- completeness: what the loop's clause says of an input that is told
 
-  -- the input ended, and what was found was told
-  pub ended-found : (source'' : Option (List ℕ × List ℕ)) (first sink sink' : Option (List ℕ)) → sink ≡ first → (reader : Reading) (end : End) → 0 < left → Gives source' source'' [] → IsAtEnd source''
-      → reader ≡ r.reader
-      → ((input : Option (List ℕ × List ℕ)) (bytes : List ℕ) (n : ℕ) → IsAll input bytes n → HasReplayed bytes (record { reader = reader; checker = r.checker }) → EndsAs end input sink sink' bytes n)
-      → IsReplay most source source'' first sink' end
-  ended-found source'' first sink sink' kept reader end some gives at_end same ends =
-      subst (λ t. IsReplay most source source'' t sink' end) kept (replay-then most source source' source'' sink sink' r left end run gives
-      (ends source'' run.bytes most (at_end, omega (arith, run.left_is, some))
-      (subst (λ (x : Reading). HasReplayed run.bytes (record { reader = x; checker = r.checker })) (sym same) run.replayed)))
+module _ (first now : Replayer) (input : List ℕ) where
+  -- what is found is found of the whole input
+  found_of : (verdict : Verdict) (whole last : List ℕ)
+      → Closes verdict first now input whole last
+        ⊎ ((front : List ℕ) × (behind : List ℕ) × (more : Bool) × (input ≡ front ++ behind)
+          × Breaks more verdict first now front whole last)
+      → (line : List ℕ) × Finds verdict input line
+  found_of verdict whole last (inl closes) = (last, closes.1)
+  found_of verdicts.NotAJournal whole last (inr (front, behind, more, is, breaks)) =
+      (last, (breaks.1.0, subst (λ t. StopsAt t breaks.1.0) (sym is) (breaks.1.1 behind),
+          breaks.1.2))
+  found_of verdicts.Legal whole last (inr (front, behind, more, is, breaks)) = absurd breaks
+  found_of verdicts.Illegal whole last (inr (front, behind, more, is, breaks)) = absurd breaks
 
-  -- a line was none, and that was told
-  pub ended-stopped : (first sink sink' : Option (List ℕ)) → sink ≡ first → (offset : ℕ) (end : End) → StopsFor r offset → Tells ends.NotAJournal (stop_line offset) end sink sink'
-      → IsReplay most source source' first sink' end
-  ended-stopped first sink sink' kept offset end stops told =
-      subst (λ t. IsReplay most source source' t sink' end) kept (replay-now most source source' sink sink' r left end run
-      (ends_told ends.NotAJournal end source' sink sink' run.bytes most (stop_line offset) (offset, inr (stops run.bytes run.replayed), refl) told))
+module _ (input : List ℕ) where
+  judges_of : (judgement : Judgement) → IsJudged input judgement → (place : ℕ) (list : List Entry)
+      → IsJournal input place list → Judges place list judgement
+  judges_of judgement judged place list journal =
+      let one = journal_one input judged.place place judged.list list judged.journal journal in
+      subst (λ p. Judges p list judgement) one.0
+      (subst (λ l. Judges judged.place l judgement) one.1 judged.judges)
 
--- ---- completeness
+  status_judged : (verdict : Verdict) (line : List ℕ) → Finds verdict input line → (place : ℕ)
+      (list : List Entry) → IsJournal input place list
+          → IsStatusOf (verdict_number verdict) place list
+  status_judged verdicts.Legal line (entries, judged, is) place list journal =
+      inl (Legal entries, judges_of (Legal entries) judged place list journal, refl)
+  status_judged verdicts.Illegal line (at, why, judged, is) place list journal =
+      inl (Illegal at why, judges_of (Illegal at why) judged place list journal, refl)
+  status_judged verdicts.NotAJournal line (offset, stops, is) place list journal =
+      absurd (journal_stops input place offset list journal stops)
 
-module _ (most : ℕ) (sink sink' : Option (List ℕ)) (old new : List ℕ × List ℕ) where
-  all_bytes : (bytes : List ℕ) → Gives (Some old) (Some new) bytes → IsAtEnd (Some new) → bytes ≡ old.1
-  all_bytes bytes given end = sym (given.1 ∙ ap (λ t. bytes ++ t) end ∙ append-nil bytes)
+  status_refused : (verdict : Verdict) (line : List ℕ) → Finds verdict input line
+      → ((place : ℕ) (list : List Entry) → IsJournal input place list → ⊥)
+      → (verdict_number verdict ≡ 3) ⊎ (verdict_number verdict ≡ 6)
+  status_refused verdicts.Legal line (entries, judged, is) none =
+      absurd (none judged.place judged.list judged.journal)
+  status_refused verdicts.Illegal line (at, why, judged, is) none =
+      absurd (none judged.place judged.list judged.journal)
+  status_refused verdicts.NotAJournal line found none = inl refl
 
-  stops_input : (bytes : List ℕ) (offset : ℕ) → Gives (Some old) (Some new) bytes → InputStopsAt (Some new) bytes most offset → StopsAt old.1 offset
-  stops_input bytes offset given (inl stops) = subst (λ t. StopsAt t offset) (all_bytes bytes given stops.0.0) stops.1
-  stops_input bytes offset given (inr stops) = subst (λ t. StopsAt t offset) (sym given.1) (stops new.1)
+module _ (most : ℕ) (first now : Replayer) (f : Flow) where
+  pub judged-complete : (told : Option (List ℕ × List ℕ)) (end : End)
+      → IfFewer told most (IsComplete ghosts first now f end) → (place : ℕ) (list : List Entry)
+      → TellsJournal told most place list → IsStatusOf (status_number end) place list
+  judged-complete None end complete place list tells = absurd tells
+  judged-complete (Some told) (ends.Over verdict) complete place list tells =
+      let (whole, last, over, wrote) = complete tells.0 in
+      let found = found_of first now told.1 verdict whole last over in
+      status_judged told.1 verdict found.0 found.1 place list tells.1
+  judged-complete (Some told) ends.NoMemory complete place list tells = inr refl
+  judged-complete (Some told) ends.ReadFault complete place list tells = absurd (complete tells.0)
+  judged-complete (Some told) ends.WriteFault complete place list tells = absurd (complete tells.0)
+  judged-complete (Some told) ends.Long complete place list tells = absurd (complete tells.0)
 
-  too_long : (bytes : List ℕ) → Gives (Some old) (Some new) bytes → length bytes ≡ most → length old.1 < most → ⊥
-  too_long bytes given long few = let all = ap length given.1 in omega (arith, all, length-append bytes new.1, long, few)
-
-  judged_input : (bytes : List ℕ) (judgement : Judgement) → Gives (Some old) (Some new) bytes → IsAtEnd (Some new) → IsJudged bytes judgement
-      → (place : ℕ) (list : List Entry) → IsJournal old.1 place list → Judges place list judgement
-  judged_input bytes judgement given end judged place list journal =
-      let one = journal_one bytes judged.place place judged.list list judged.journal (subst (λ t. IsJournal t place list) (sym (all_bytes bytes given end)) journal) in
-      subst (λ p. Judges p list judgement) one.0 (subst (λ l. Judges judged.place l judgement) one.1 judged.judges)
-
-  told_judged : (end : End) → IsReplay most (Some old) (Some new) sink sink' end → (place : ℕ) (list : List Entry) → TellsJournal (Some old) most place list
-      → (end ≡ ends.ReadFault → ⊥) → (end ≡ ends.WriteFault → ⊥) → IsStatusOf (status_number end) place list
-  told_judged ends.Legal run place list tells read write =
-      let due = run.ends.1 in
-      inl (Legal due.1.0, judged_input run.bytes (Legal due.1.0) run.given due.0.0 due.1.1 place list tells.1, refl)
-  told_judged ends.Illegal run place list tells read write =
-      let due = run.ends.1 in
-      inl (Illegal due.1.0 due.1.1, judged_input run.bytes (Illegal due.1.0 due.1.1) run.given due.0.0 due.1.2 place list tells.1, refl)
-  told_judged ends.NotAJournal run place list tells read write =
-      let due = run.ends.1 in
-      absurd (journal_stops old.1 place due.0 list tells.1 (stops_input run.bytes due.0 run.given due.1))
-  told_judged ends.ReadFault run place list tells read write = absurd (read refl)
-  told_judged ends.WriteFault run place list tells read write = absurd (write refl)
-  told_judged ends.NoMemory run place list tells read write = inr refl
-  told_judged ends.Long run place list tells read write = absurd (too_long run.bytes run.given run.ends.1 tells.0)
-
-  judged_none : (bytes : List ℕ) (judgement : Judgement) → Gives (Some old) (Some new) bytes → IsAtEnd (Some new) → IsJudged bytes judgement → TellsNoJournal (Some old) most → ⊥
-  judged_none bytes judgement given end judged tells =
-      tells.1 judged.place judged.list (subst (λ t. IsJournal t judged.place judged.list) (all_bytes bytes given end) judged.journal)
-
-  told_refused : (end : End) → IsReplay most (Some old) (Some new) sink sink' end → TellsNoJournal (Some old) most
-      → (end ≡ ends.ReadFault → ⊥) → (end ≡ ends.WriteFault → ⊥) → (status_number end ≡ 3) ⊎ (status_number end ≡ 6)
-  told_refused ends.Legal run tells read write =
-      let due = run.ends.1 in absurd (judged_none run.bytes (Legal due.1.0) run.given due.0.0 due.1.1 tells)
-  told_refused ends.Illegal run tells read write =
-      let due = run.ends.1 in absurd (judged_none run.bytes (Illegal due.1.0 due.1.1) run.given due.0.0 due.1.2 tells)
-  told_refused ends.NotAJournal run tells read write = inl refl
-  told_refused ends.ReadFault run tells read write = absurd (read refl)
-  told_refused ends.WriteFault run tells read write = absurd (write refl)
-  told_refused ends.NoMemory run tells read write = inr refl
-  told_refused ends.Long run tells read write = absurd (too_long run.bytes run.given run.ends.1 tells.0)
-
-pub judged-complete : (most : ℕ) (sink sink' : Option (List ℕ)) (source source' : Option (List ℕ × List ℕ)) (end : End) → IsReplay most source source' sink sink' end
-    → (place : ℕ) (list : List Entry) → TellsJournal source most place list → (end ≡ ends.ReadFault → ⊥) → (end ≡ ends.WriteFault → ⊥) → IsStatusOf (status_number end) place list
-judged-complete most sink sink' None source' end run place list tells read write = absurd tells
-judged-complete most sink sink' (Some old) None end run place list tells read write = absurd run.given
-judged-complete most sink sink' (Some old) (Some new) end run place list tells read write = told_judged most sink sink' old new end run place list tells read write
-
-pub refused-complete : (most : ℕ) (sink sink' : Option (List ℕ)) (source source' : Option (List ℕ × List ℕ)) (end : End) → IsReplay most source source' sink sink' end
-    → TellsNoJournal source most → (end ≡ ends.ReadFault → ⊥) → (end ≡ ends.WriteFault → ⊥) → (status_number end ≡ 3) ⊎ (status_number end ≡ 6)
-refused-complete most sink sink' None source' end run tells read write = absurd tells
-refused-complete most sink sink' (Some old) None end run tells read write = absurd run.given
-refused-complete most sink sink' (Some old) (Some new) end run tells read write = told_refused most sink sink' old new end run tells read write
+  pub refused-complete : (told : Option (List ℕ × List ℕ)) (end : End)
+      → IfFewer told most (IsComplete ghosts first now f end)
+      → TellsNoJournal told most → (status_number end ≡ 3) ⊎ (status_number end ≡ 6)
+  refused-complete None end complete tells = absurd tells
+  refused-complete (Some told) (ends.Over verdict) complete tells =
+      let (whole, last, over, wrote) = complete tells.0 in
+      let found = found_of first now told.1 verdict whole last over in
+      status_refused told.1 verdict found.0 found.1 tells.1
+  refused-complete (Some told) ends.NoMemory complete tells = inr refl
+  refused-complete (Some told) ends.ReadFault complete tells = absurd (complete tells.0)
+  refused-complete (Some told) ends.WriteFault complete tells = absurd (complete tells.0)
+  refused-complete (Some told) ends.Long complete tells = absurd (complete tells.0)

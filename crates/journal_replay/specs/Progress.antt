@@ -1,19 +1,17 @@
 -- Inside a replay: where it stands between two lines.
-use Rattle.std.specs.Prelude.{◌≡◌, ℕ, ◌+◌, ◌<◌, ◌≤◌, ◌^◌, List, ◌++◌, length, Option, Some, None, IsTrue, IsFalse, ⊤}
-use Rattle.asp_base.specs.Outside.{Gives, Takes, TakesFront}
+use Rattle.std.specs.Prelude.{◌≡◌, ℕ, ◌≤◌, List, [], ◌++◌, length, Option, Some, None, Bool, IsTrue, IsFalse, ⊤}
 use Rattle.plain_words.specs.Words.{HasNo}
 use Rattle.journal_text.specs.declared.judgement.Judgement.{Judgement}
 use Rattle.journal_text.specs.declared.judgement.Judgement.TheVariants.{Legal, Illegal}
+use Rattle.journal_text.specs.declared.judgement.Why.{Why}
 use Rattle.journal_text.specs.Checking.{Checked, HasTaken}
 use Rattle.journal_text.specs.JournalText.{most_line}
 use Rattle.journal_text.specs.Reading.{Reading, StopsAt, Taken, HasRead}
-use Rattle.journal_replay.specs.declared.endings.End.{End}
-use Rattle.journal_replay.specs.declared.endings.End.TheVariants as ends
-use Rattle.journal_replay.specs.declared.lines.Replaying.{Replaying}
-use Rattle.journal_replay.specs.declared.lines.Stop.{Stop}
-use Rattle.journal_replay.specs.declared.lines.Stop.TheVariants as stops
-
--- ---- lines
+use Rattle.journal_text.specs.Verdict.{judgement_line}
+use Rattle.journal_replay.specs.declared.verdict.Verdict.{Verdict}
+use Rattle.journal_replay.specs.declared.verdict.Verdict.TheVariants as verdicts
+use Rattle.journal_replay.specs.declared.replayer.Replayer.{Replayer}
+use Rattle.journal_replay.specs.Replay.{IsJudged, stop_line}
 
 -- the checker has taken the entries that were taken of a text, the first of them at its place
 abbrev pub Checks : Taken → Checked → Type 0
@@ -21,22 +19,11 @@ Checks None checker = ⊤
 Checks (Some t) checker = (checker.first ≡ t.0) × HasTaken checker t.1
 
 -- The reader was fed the text, and the checker has taken the entries that were taken of it.
-pub record HasReplayed (text : List ℕ) (r : Replaying) : Type 0 where
+pub record HasReplayed (text : List ℕ) (reader : Reading) (checker : Checked) : Type 0 where
   pub taken : Taken
-  pub read : HasRead text taken r.reader
-  pub checks : Checks taken r.checker
-
--- the text that was replayed has at most 2^40 bytes
-abbrev pub IsShort : Replaying → Type 0
-IsShort r = (text : List ℕ) × HasReplayed text r × (length text ≤ 2 ^ 40)
-
--- what was replayed of a text before was replayed of it now
-abbrev pub GoesOn : Replaying → Replaying → Type 0
-GoesOn old new = (text : List ℕ) → HasReplayed text old → HasReplayed text new
-
--- each text that was replayed stops at this offset, whatever follows it
-abbrev pub StopsFor : Replaying → ℕ → Type 0
-StopsFor old offset = (text : List ℕ) → HasReplayed text old → (more : List ℕ) → StopsAt (text ++ more) offset
+  pub read : HasRead text taken reader
+  pub checks : Checks taken checker
+  pub whole : IsFalse reader.is_broken
 
 -- The reader waits for more bytes of a line.
 pub record Waits (r : Reading) : Type 0 where
@@ -45,43 +32,42 @@ pub record Waits (r : Reading) : Type 0 where
   pub unfinished : HasNo 10 r.held
   pub short : length r.held ≤ most_line
 
--- A line was taken from those held.
-pub record TookLine (old new : Replaying) : Type 0 where
-  pub goes : GoesOn old new
-  pub whole : IsFalse new.reader.is_broken
-  pub fewer : length new.reader.held < length old.reader.held
+-- ---- a replay as a consumer
 
--- what holds where no more lines are taken
-abbrev pub StopsSo : Stop → Replaying → Replaying → Type 0
-StopsSo stops.More old new = GoesOn old new × Waits new.reader
-StopsSo (stops.NotAJournal offset) old new = StopsFor old offset
-StopsSo stops.NoMemory old new = ⊤
+-- the bytes were replayed, and nothing was given
+abbrev pub Went : Replayer → Replayer → List ℕ → List ℕ → Type 0
+Went first now bytes due =
+    HasReplayed bytes now.reader now.checker × (due ≡ []) × (now.line.items ≡ [])
 
--- ---- the loop
+-- no line gives anything
+abbrev pub Gave : Replayer → Replayer → List ℕ → List ℕ → List ℕ → Type 0
+Gave first now bytes whole last = last ≡ []
 
--- A replay up to now: these bytes were taken and replayed, and so many may still be taken.
-pub record Running (most : ℕ) (source source' : Option (List ℕ × List ℕ)) (r : Replaying) (left : ℕ) : Type 0 where
-  pub bytes : List ℕ
-  pub given : Gives source source' bytes
-  pub replayed : HasReplayed bytes r
-  pub left_is : length bytes + left ≡ most
+-- the bytes stop being a journal, whatever follows them
+abbrev pub Breaks : Bool → Verdict → Replayer → Replayer → List ℕ → List ℕ → List ℕ → Type 0
+Breaks more verdicts.NotAJournal first now bytes whole last =
+    (whole ≡ []) × ((offset : ℕ) × ((behind : List ℕ) → StopsAt (bytes ++ behind) offset)
+      × (last ≡ stop_line offset))
+Breaks more verdicts.Legal first now bytes whole last = ⊥
+Breaks more verdicts.Illegal first now bytes whole last = ⊥
 
--- ---- the line that is written
+-- what is found of the bytes where none follow
+abbrev pub Finds : Verdict → List ℕ → List ℕ → Type 0
+Finds verdicts.Legal bytes line =
+    (entries : ℕ) × IsJudged bytes (Legal entries) × (line ≡ judgement_line (Legal entries))
+Finds verdicts.Illegal bytes line = (place : ℕ) × (why : Why) × IsJudged bytes (Illegal place why)
+    × (line ≡ judgement_line (Illegal place why))
+Finds verdicts.NotAJournal bytes line =
+    (offset : ℕ) × StopsAt bytes offset × (line ≡ stop_line offset)
 
--- the ending of a judgement
-abbrev pub end_of : Judgement → End
-end_of (Legal entries) = ends.Legal
-end_of (Illegal place why) = ends.Illegal
+abbrev pub Closes : Verdict → Replayer → Replayer → List ℕ → List ℕ → List ℕ → Type 0
+Closes verdict first now bytes whole last = (whole ≡ []) × Finds verdict bytes last
 
--- this ending comes with a line that tells what was found
-abbrev pub HasLine : End → Type 0
-HasLine ends.Legal = ⊤
-HasLine ends.Illegal = ⊤
-HasLine ends.NotAJournal = ⊤
-HasLine end = ⊥
+-- nothing was written
+abbrev pub Lacks : Replayer → Replayer → List ℕ → List ℕ → Type 0
+Lacks first now bytes due = due ≡ []
 
--- the line was written and it ended as is due, or a front of it was, or nothing
-abbrev pub Tells : End → List ℕ → End → Option (List ℕ) → Option (List ℕ) → Type 0
-Tells due line ends.WriteFault sink sink' = TakesFront sink sink' line
-Tells due line ends.NoMemory sink sink' = sink' ≡ sink
-Tells due line end sink sink' = (end ≡ due) × Takes sink sink' line
+-- the verdict of a judgement
+abbrev pub verdict_of : Judgement → Verdict
+verdict_of (Legal entries) = verdicts.Legal
+verdict_of (Illegal place why) = verdicts.Illegal

@@ -1,4 +1,5 @@
--- A replay: a journal that is read and judged, from the bytes that were taken to the line that was written.
+-- A replay: a journal that is read and judged, from the bytes that were taken to the line that was
+-- written.
 use Rattle.std.specs.Prelude.{◌≡◌, ◌⊎◌, ℕ, ◌<◌, ◌≤◌, List, ◌++◌, length, codes, decimal, Option, Some, None, ⊤}
 use Rattle.asp_base.specs.Outside.{Gives, IsAtEnd, Takes, TakesFront}
 use Rattle.asp_messages.specs.PlainSpelling.{◌then◌}
@@ -13,8 +14,11 @@ use Rattle.journal_text.specs.JournalText.{IsJournal, most_line}
 use Rattle.journal_text.specs.Judging.{Judges}
 use Rattle.journal_text.specs.Reading.{Taken, TakenFits, StopsAt, taken_text}
 use Rattle.journal_text.specs.Verdict.{judgement_line}
-use Rattle.journal_replay.specs.declared.endings.End.{End}
-use Rattle.journal_replay.specs.declared.endings.End.TheVariants as ends
+use Rattle.journal_replay.specs.declared.verdict.Verdict.{Verdict}
+use Rattle.journal_replay.specs.declared.verdict.Verdict.TheVariants as verdicts
+use Rattle.stream_run.specs.declared.ending.End as run
+use Rattle.stream_run.specs.declared.ending.End.TheVariants as ends
+use Rattle.stream_run.specs.Status.{status_number as status_with}
 
 -- ---- what the bytes are
 
@@ -35,10 +39,12 @@ pub record IsJudged (bytes : List ℕ) (judgement : Judgement) : Type 0 where
   pub judges : Judges place list judgement
   pub locks : GivesLocks judgement list
 
--- the input stops being a journal at this offset: the bytes are all of it and stop there, or they stop there whatever follows them
+-- the input stops being a journal at this offset: the bytes are all of it and stop there, or they
+-- stop there whatever follows them
 abbrev pub InputStopsAt : Option (List ℕ × List ℕ) → List ℕ → ℕ → ℕ → Type 0
 InputStopsAt source' bytes most offset =
-    (IsAll source' bytes most × StopsAt bytes offset) ⊎ ((more : List ℕ) → StopsAt (bytes ++ more) offset)
+    (IsAll source' bytes most × StopsAt bytes offset)
+    ⊎ ((more : List ℕ) → StopsAt (bytes ++ more) offset)
 
 -- The bytes are whole lines of a journal, and the front of one more line.
 pub record AreLines (bytes : List ℕ) : Type 0 where
@@ -51,40 +57,54 @@ pub record AreLines (bytes : List ℕ) : Type 0 where
 
 -- ---- endings
 
+-- how a replay ends
+abbrev pub End : Type 0
+End = run.End Verdict
+
 -- the line that tells at which offset a text is no journal, with its line feed
 unfoldable pub stop_line : ℕ → List ℕ
 stop_line offset = (codes "not a journal at" then decimal offset) ++ codes "\n"
 
--- the line that is due at an ending that tells what was found
-abbrev pub IsDue : End → Option (List ℕ × List ℕ) → List ℕ → ℕ → List ℕ → Type 0
-IsDue ends.Legal source' bytes most line =
-    IsAll source' bytes most × ((entries : ℕ) × IsJudged bytes (Legal entries) × (line ≡ judgement_line (Legal entries)))
-IsDue ends.Illegal source' bytes most line =
-    IsAll source' bytes most × ((place : ℕ) × (why : Why) × IsJudged bytes (Illegal place why) × (line ≡ judgement_line (Illegal place why)))
-IsDue ends.NotAJournal source' bytes most line = (offset : ℕ) × InputStopsAt source' bytes most offset × (line ≡ stop_line offset)
-IsDue end source' bytes most line = ⊥
+-- the line that is due where this was found
+abbrev pub IsDue : Verdict → Option (List ℕ × List ℕ) → List ℕ → ℕ → List ℕ → Type 0
+IsDue verdicts.Legal source' bytes most line =
+    IsAll source' bytes most
+    × ((entries : ℕ) × IsJudged bytes (Legal entries) × (line ≡ judgement_line (Legal entries)))
+IsDue verdicts.Illegal source' bytes most line =
+    IsAll source' bytes most
+    × ((place : ℕ) × (why : Why) × IsJudged bytes (Illegal place why)
+      × (line ≡ judgement_line (Illegal place why)))
+IsDue verdicts.NotAJournal source' bytes most line =
+    (offset : ℕ) × InputStopsAt source' bytes most offset × (line ≡ stop_line offset)
 
--- What holds at each ending: of the source and the sink after it, and of the bytes taken, which are at most this many.
-abbrev pub EndsAs : End → Option (List ℕ × List ℕ) → Option (List ℕ) → Option (List ℕ) → List ℕ → ℕ → Type 0
-EndsAs ends.ReadFault source' sink sink' bytes most = AreLines bytes × (length bytes < most) × (sink' ≡ sink)
+-- What holds at each ending: of the source and the sink after it, and of the bytes taken, which are
+-- at most this many.
+abbrev pub EndsAs : End → Option (List ℕ × List ℕ) → Option (List ℕ) → Option (List ℕ) → List ℕ → ℕ
+    → Type 0
+EndsAs (ends.Over verdict) source' sink sink' bytes most =
+    (line : List ℕ) × IsDue verdict source' bytes most line × Takes sink sink' line
+EndsAs ends.ReadFault source' sink sink' bytes most =
+    AreLines bytes × (length bytes < most) × (sink' ≡ sink)
 EndsAs ends.WriteFault source' sink sink' bytes most =
-    (end : End) × (line : List ℕ) × IsDue end source' bytes most line × TakesFront sink sink' line
+    (verdict : Verdict) × (line : List ℕ) × IsDue verdict source' bytes most line
+    × TakesFront sink sink' line
 EndsAs ends.NoMemory source' sink sink' bytes most = sink' ≡ sink
-EndsAs ends.Long source' sink sink' bytes most = AreLines bytes × (length bytes ≡ most) × (sink' ≡ sink)
-EndsAs end source' sink sink' bytes most = (line : List ℕ) × IsDue end source' bytes most line × Takes sink sink' line
+EndsAs ends.Long source' sink sink' bytes most =
+    AreLines bytes × (length bytes ≡ most) × (sink' ≡ sink)
 
--- the exit status of an ending
+-- the exit status of what was found
+abbrev pub verdict_number : Verdict → ℕ
+verdict_number verdicts.Legal = 0
+verdict_number verdicts.NotAJournal = 3
+verdict_number verdicts.Illegal = 8
+
+-- the exit status of an ending: 4 to 7 where it was stopped
 abbrev pub status_number : End → ℕ
-status_number ends.Legal = 0
-status_number ends.NotAJournal = 3
-status_number ends.ReadFault = 4
-status_number ends.WriteFault = 5
-status_number ends.NoMemory = 6
-status_number ends.Long = 7
-status_number ends.Illegal = 8
+status_number end = status_with verdict_number end
 
 -- A replay: these bytes were taken, and it ended so.
-pub record IsReplay (most : ℕ) (source source' : Option (List ℕ × List ℕ)) (sink sink' : Option (List ℕ)) (end : End) : Type 0 where
+pub record IsReplay (most : ℕ) (source source' : Option (List ℕ × List ℕ))
+    (sink sink' : Option (List ℕ)) (end : End) : Type 0 where
   pub bytes : List ℕ
   pub given : Gives source source' bytes
   pub within : length bytes ≤ most
@@ -100,7 +120,8 @@ TellsJournal (Some told) most place list = (length told.1 < most) × IsJournal t
 -- the source tells its input, which is no journal and has fewer than so many bytes
 abbrev pub TellsNoJournal : Option (List ℕ × List ℕ) → ℕ → Type 0
 TellsNoJournal None most = ⊥
-TellsNoJournal (Some told) most = (length told.1 < most) × ((place : ℕ) (list : List Entry) → ¬ IsJournal told.1 place list)
+TellsNoJournal (Some told) most =
+    (length told.1 < most) × ((place : ℕ) (list : List Entry) → ¬ IsJournal told.1 place list)
 
 -- the exit status of a judgement
 abbrev pub judgement_status : Judgement → ℕ
@@ -109,4 +130,6 @@ judgement_status (Illegal place why) = 8
 
 -- the status is that of the list's judgement, or memory was wanting
 abbrev pub IsStatusOf : ℕ → ℕ → List Entry → Type 0
-IsStatusOf status place list = ((judgement : Judgement) × Judges place list judgement × (status ≡ judgement_status judgement)) ⊎ (status ≡ 6)
+IsStatusOf status place list =
+    ((judgement : Judgement) × Judges place list judgement × (status ≡ judgement_status judgement))
+    ⊎ (status ≡ 6)

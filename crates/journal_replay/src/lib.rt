@@ -1,13 +1,11 @@
 //! A journal that is read and judged: the command `replay`.
 #![tactic(auto)]
 
-mod endings;
-mod lines;
-mod pieces;
 mod replay;
-mod telling;
+mod replayer;
 #[cfg(test)]
 mod tests;
+mod verdict;
 
-pub use endings::End;
 pub use replay::run_replay;
+pub use verdict::{End, Verdict};

@@ -2,85 +2,44 @@
 ghost use Rattle.std.specs.Prelude.{◌≡◌, ◌⊎◌, ◌≤◌, ◌^◌, ℕ, List, Option, IsTrue};
 ghost use Rattle.asp_base.specs.Causes.{Rose};
 ghost use Rattle.session_machine.specs.declared.entry.Entry.{Entry};
-ghost use Rattle.journal_replay.specs.declared.endings.End.{End};
-ghost use Rattle.journal_replay.specs.Progress.{HasReplayed};
-ghost use Rattle.journal_replay.specs.Replay.{EndsAs, IsAll, IsReplay, IsStatusOf, TellsJournal, TellsNoJournal, status_number};
+ghost use Rattle.journal_replay.specs.Replay.{End, IsReplay, IsStatusOf, TellsJournal, TellsNoJournal, status_number};
 
-use crate::endings::{End, status_number};
-use crate::lines::{Replaying, Stop, take_lines};
-use crate::pieces::{Piece, take_piece};
-use crate::telling::{tell_judgement, tell_stop};
+use crate::replayer::Replayer;
 use asp_base::{Sink, Source};
-use journal_text::{Checker, JournalReader};
 use std::alloc::Global;
+use stream_run::run;
 
-/// Writes what was found of an input that has ended.
-fn tell_found<T: Sink>(alloc: Global, replaying: &Replaying, sink: &mut T) -> End
-    requires may_feed { IsTrue replaying.now.reader.may_feed }
-    ensures ends { (source' : Option (List ℕ × List ℕ)) (bytes : List ℕ) (most : ℕ) → IsAll source' bytes most → HasReplayed bytes replaying.now
-        → EndsAs result source' (T.taken sink.old) (T.taken sink.new) bytes most }
-    ensures fault { result ≡ End.WriteFault → Rose (T.faults sink.old) (T.faults sink.new) }
-    ensures no_read { result ≡ End.ReadFault → ⊥ }
-{
-    match replaying.reader.finish() {
-        None => tell_judgement(alloc, replaying.checker.verdict(), sink),
-        Some(offset) => tell_stop(alloc, offset, sink),
-    }
-}
-
-/// Reads and judges the journal on the source until it ends, or at most `most` bytes of it.
-fn replay<S: Source, T: Sink>(alloc: Global, most: u64, source: &mut S, sink: &mut T) -> End
-    requires most { most ≤ 2 ^ 40 }
-    ensures replay { IsReplay most (S.told source.old) (S.told source.new) (T.taken sink.old) (T.taken sink.new) result }
-    ensures read { result ≡ End.ReadFault → Rose (S.faults source.old) (S.faults source.new) }
-    ensures write { result ≡ End.WriteFault → Rose (T.faults sink.old) (T.faults sink.new) }
-{
-    let mut replaying = Replaying {
-        reader: JournalReader::new(alloc),
-        checker: Checker::new(alloc, 0),
-    };
-    let mut left = most;
-    while left > 0 {
-        match take_piece(source, &mut replaying.reader, left) {
-            Piece::Fed(count) => left -= count,
-            Piece::End => return tell_found(alloc, &replaying, sink),
-            Piece::ReadFault => return End::ReadFault,
-            Piece::NoMemory => return End::NoMemory,
-        }
-        match take_lines(alloc, &mut replaying) {
-            Stop::More => {}
-            Stop::NotAJournal { offset } => return tell_stop(alloc, offset, sink),
-            Stop::NoMemory => return End::NoMemory,
-        }
-    }
-    End::Long
-}
-
-/// Reads the journal on the source, judges its entries, and writes one line that tells the judgement,
-/// or at which offset the input is no journal. It holds a line of the journal at a time, and the items
-/// that there are. It waits for nobody, and returns.
+/// Reads the journal on the source, judges its entries, and writes one line that tells the
+/// judgement, or at which offset the input is no journal. It holds a line of the journal at a time,
+/// and the items that there are. It waits for nobody, and returns.
 ///
-/// The status is 0 where the input is a journal whose entries are a legal history from no items and no
-/// fault; 8 where it is a journal and they are not; 3 where it is no journal, told as soon as a line is
-/// none of its place; 4 and 5 where the source or the sink failed; 6 where memory was wanting; 7 where
-/// the most bytes were taken and the lines among them are those of a journal. The first of these in
-/// time decides.
+/// The status is 0 where the input is a journal whose entries are a legal history from no items and
+/// no fault; 8 where it is a journal and they are not; 3 where it is no journal, told as soon as a
+/// line is none of its place; 4 and 5 where the source or the sink failed; 6 where memory was
+/// wanting; 7 where the most bytes were taken and the lines among them are those of a journal. The
+/// first of these in time decides.
 pub fn run_replay<S: Source, T: Sink>(alloc: Global, most: u64, source: &mut S, sink: &mut T) -> u8
     requires most { most ≤ 2 ^ 40 }
 
     // There is one ending, whose number is the status, and one replay that ended so.
     ensures replay { (end : End) × (result ≡ status_number end)
-        × IsReplay most (S.told source.old) (S.told source.new) (T.taken sink.old) (T.taken sink.new) end }
+        × IsReplay most (S.told source.old) (S.told source.new)
+            (T.taken sink.old) (T.taken sink.new) end }
     ensures read { result ≡ 4 → Rose (S.faults source.old) (S.faults source.new) }
     ensures write { result ≡ 5 → Rose (T.faults sink.old) (T.faults sink.new) }
 
-    // Where the input is a journal and neither source nor sink fails, it is judged, if memory is there.
-    ensures judged { (place : ℕ) (list : List Entry) → TellsJournal (S.told source.old) most place list → (Rose (S.faults source.old) (S.faults source.new) → ⊥)
+    // Where the input is a journal and neither source nor sink fails, it is judged, if memory is
+    // there.
+    ensures judged { (place : ℕ) (list : List Entry)
+        → TellsJournal (S.told source.old) most place list
+        → (Rose (S.faults source.old) (S.faults source.new) → ⊥)
         → (Rose (T.faults sink.old) (T.faults sink.new) → ⊥) → IsStatusOf result place list }
 
     // Where the input is none and neither fails, that is told, if memory is there.
-    ensures refused { TellsNoJournal (S.told source.old) most → (Rose (S.faults source.old) (S.faults source.new) → ⊥)
+    ensures refused { TellsNoJournal (S.told source.old) most
+        → (Rose (S.faults source.old) (S.faults source.new) → ⊥)
         → (Rose (T.faults sink.old) (T.faults sink.new) → ⊥) → (result ≡ 3) ⊎ (result ≡ 6) }
 {
-    status_number(replay(alloc, most, source, sink))
+    let mut replayer = Replayer::new(alloc);
+    run(most, &mut replayer, source, sink).status()
 }

@@ -1,17 +1,33 @@
 use Rattle.std.proofs.Common.{subst, sym, ◌≡◌, ℕ}
 use Rattle.std.specs.Prelude.{◌⊎◌}
 use Rattle.journal_replay.specs.Replay.{IsStatusOf}
-use Rattle.journal_replay.proofs.EndingLemmas.{judged-complete, refused-complete}
+use Rattle.journal_replay.proofs.EndingLemmas.{replay_of, judged-complete, refused-complete}
+use Rattle.stream_run.specs.Flow.{flow}
 use Rattle.journal_replay.proofs.replay.run_replay.Goals as goal
+
+pub returns-clause-replay : goal.returns-clause-replay
+returns-clause-replay g c = (
+  c.run.result,
+  c.status.ensures,
+  replay_of c.args.most _ c.run.new.consumer
+    (g.S.Source.told c.args.source.now) (g.S.Source.told c.run.new.source)
+    (g.T.Sink.taken c.args.sink.now) (g.T.Sink.taken c.run.new.sink) c.run.result c.run.ensures.ran,
+)
 
 pub returns-clause-judged : goal.returns-clause-judged
 returns-clause-judged g c = λ place list tells read write.
-    subst (λ (n : ℕ). IsStatusOf n place list) (sym c.status_number.ensures)
-    (judged-complete c.args.most (g.T.Sink.taken c.args.sink.now) (g.T.Sink.taken c.replay.new.sink) (g.S.Source.told c.args.source.now) (g.S.Source.told c.replay.new.source) c.replay.result
-    c.replay.ensures.replay place list tells (λ e. read (c.replay.ensures.read e)) (λ e. write (c.replay.ensures.write e)))
+    subst (λ (n : ℕ). IsStatusOf n place list) (sym c.status.ensures)
+    (judged-complete c.args.most _ c.run.new.consumer
+    (flow (g.S.Source.told c.args.source.now) (g.S.Source.told c.run.new.source)
+    (g.T.Sink.taken c.args.sink.now) (g.T.Sink.taken c.run.new.sink))
+    (g.S.Source.told c.args.source.now) c.run.result
+    (c.run.ensures.complete read write) place list tells)
 
 pub returns-clause-refused : goal.returns-clause-refused
 returns-clause-refused g c = λ tells read write.
-    subst (λ (n : ℕ). (n ≡ 3) ⊎ (n ≡ 6)) (sym c.status_number.ensures)
-    (refused-complete c.args.most (g.T.Sink.taken c.args.sink.now) (g.T.Sink.taken c.replay.new.sink) (g.S.Source.told c.args.source.now) (g.S.Source.told c.replay.new.source) c.replay.result
-    c.replay.ensures.replay tells (λ e. read (c.replay.ensures.read e)) (λ e. write (c.replay.ensures.write e)))
+    subst (λ (n : ℕ). (n ≡ 3) ⊎ (n ≡ 6)) (sym c.status.ensures)
+    (refused-complete c.args.most _ c.run.new.consumer
+    (flow (g.S.Source.told c.args.source.now) (g.S.Source.told c.run.new.source)
+    (g.T.Sink.taken c.args.sink.now) (g.T.Sink.taken c.run.new.sink))
+    (g.S.Source.told c.args.source.now) c.run.result
+    (c.run.ensures.complete read write) tells)

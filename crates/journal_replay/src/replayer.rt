@@ -1,0 +1,126 @@
+//! A journal that is read and judged, line by line.
+ghost use Rattle.std.specs.Prelude.{◌≡◌, ◌++◌, [], OnOk};
+ghost use Rattle.journal_replay.specs.Progress.{Went, verdict_of};
+ghost use Rattle.journal_replay.specs.Replay.{stop_line};
+
+use crate::Verdict;
+use asp_base::NoMemory;
+use itoa::Buffer;
+use journal_text::{Checker, JournalNext, JournalReader, Judgement, write_judgement};
+use std::alloc::Global;
+use stream_run::{Consumer, Step};
+
+/// A reader, and the checker of the entries that it read.
+#[derive(Debug, Drop)]
+pub struct Replayer {
+    alloc: Global,
+    reader: JournalReader,
+    checker: Checker,
+    line: Vec<u8>,
+}
+
+/// Appends the line that tells at which offset a text is no journal.
+#[tactic(auto, unfolding(crate::specs::Replay::stop_line))]
+fn write_stop(out: &mut Vec<u8>, offset: u64) -> Result<(), NoMemory>
+    ensures { OnOk result (out.new.items ≡ out.old.items ++ stop_line offset) }
+{
+    let mut buffer = Buffer::new();
+    out.extend_from_slice(b"not a journal at ")?;
+    out.extend_from_slice(buffer.format(offset).as_bytes())?;
+    out.extend_from_slice(b"\n")?;
+    Ok(())
+}
+
+/// The verdict of a judgement.
+fn verdict_of(judgement: &Judgement) -> Verdict
+    ensures { result ≡ verdict_of judgement.now }
+{
+    match judgement {
+        Judgement::Legal { .. } => Verdict::Legal,
+        Judgement::Illegal { .. } => Verdict::Illegal,
+    }
+}
+
+impl Replayer {
+    /// Nothing was read. It takes no memory.
+    pub fn new(alloc: Global) -> Replayer
+        ensures begun { Went result result [] [] }
+    {
+        Replayer {
+            alloc,
+            reader: JournalReader::new(alloc),
+            checker: Checker::new(alloc, 0),
+            line: Vec::new(alloc),
+        }
+    }
+}
+
+impl Consumer for Replayer {
+    ghost use Rattle.std.specs.Prelude.{length, []};
+    ghost use Rattle.journal_replay.specs.Progress.{Went, Waits, Gave, Breaks, Closes, Lacks};
+
+    type Over = Verdict;
+
+    ghost went = { Went };
+
+    ghost waits = { λ more now. Waits now.reader };
+
+    ghost gave = { Gave };
+
+    ghost breaks = { Breaks };
+
+    ghost closes = { Closes };
+
+    ghost lacks = { Lacks };
+
+    ghost work = { λ now. length now.reader.held };
+
+    ghost head = { λ now. now.line.items };
+
+    ghost body = { λ now. [] };
+
+    fn feed(&mut self, piece: &[u8]) -> Result<(), NoMemory> {
+        self.reader.feed(piece)
+    }
+
+    fn step(&mut self, _more: bool) -> Step<Verdict> {
+        match self.reader.next() {
+            JournalNext::Head { place } => {
+                self.checker = Checker::new(self.alloc, place);
+                Step::Did
+            }
+            JournalNext::Entry(entry) => match self.checker.take(entry) {
+                Ok(()) => Step::Did,
+                Err(NoMemory) => Step::NoMemory,
+            },
+            JournalNext::More => Step::More,
+            JournalNext::NotAJournal { offset } => match write_stop(&mut self.line, offset) {
+                Ok(()) => Step::Over(Verdict::NotAJournal),
+                Err(NoMemory) => Step::NoMemory,
+            },
+            JournalNext::NoMemory => Step::NoMemory,
+        }
+    }
+
+    fn finish(&mut self) -> Result<Verdict, NoMemory> {
+        match self.reader.finish() {
+            None => {
+                let judgement = self.checker.verdict();
+                write_judgement(&mut self.line, judgement)?;
+                Ok(verdict_of(judgement))
+            }
+            Some(offset) => {
+                write_stop(&mut self.line, offset)?;
+                Ok(Verdict::NotAJournal)
+            }
+        }
+    }
+
+    fn head(&self) -> &[u8] {
+        self.line.as_slice()
+    }
+
+    fn body(&self) -> &[u8] {
+        &[]
+    }
+}

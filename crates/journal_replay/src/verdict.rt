@@ -1,0 +1,31 @@
+//! What a replay finds.
+
+use stream_run::Status;
+
+/// What a replay finds.
+#[derive(Clone, Copy, Debug, PartialEq, Eq, Drop)]
+pub enum Verdict {
+    /// The input is a journal, and its entries are a legal history.
+    Legal,
+    /// The input is a journal, and its entries are no legal history.
+    Illegal,
+    /// The input is no journal.
+    NotAJournal,
+}
+
+/// How a replay ends.
+pub type End = stream_run::End<Verdict>;
+
+impl Status for Verdict {
+    ghost use Rattle.journal_replay.specs.Replay.{verdict_number};
+
+    ghost number = { verdict_number };
+
+    fn number(&self) -> u8 {
+        match self {
+            Verdict::Legal => 0,
+            Verdict::NotAJournal => 3,
+            Verdict::Illegal => 8,
+        }
+    }
+}
