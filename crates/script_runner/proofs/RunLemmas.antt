@@ -1,8 +1,8 @@
 -- A run from its beginning to its end.
-use Rattle.std.proofs.Common.{◌≡◌, ℕ, ◌+◌, ◌-◌, ◌<◌, ◌≤◌, List, [], ◌∷◌, ◌++◌, length, take, Option, refl, sym, ap, ◌∙◌, arith, subst, inl, inr, append_assoc, append-nil, length-append}
-use Rattle.std.specs.Prelude.{◌⊎◌, ◌≢◌, ⊤}
+use Rattle.std.proofs.Common.{◌≡◌, ℕ, ◌+◌, ◌-◌, ◌<◌, ◌≤◌, Bool, true, false, List, [], ◌∷◌, ◌++◌, length, take, drop, Option, refl, sym, ap, ◌∙◌, arith, subst, inl, inr, append_assoc, append-nil, length-append}
+use Rattle.std.specs.Prelude.{◌⊎◌, ◌≢◌, IsTrue, ⊤}
 use Rattle.asp_base.specs.Outside.{Gives, IsAtEnd, Takes, TakesFront}
-use Rattle.asp_base.proofs.OutsideLemmas.{Takes-nil, Takes-trans, Gives-nil, Gives-trans}
+use Rattle.asp_base.proofs.OutsideLemmas.{Takes-nil, Takes-trans}
 use Rattle.plain_words.specs.Words.{HasNo, SplitsAt}
 use Rattle.session_machine.specs.declared.item.Item.{Item}
 use Rattle.session_machine.specs.History.{nothing}
@@ -12,241 +12,314 @@ use Rattle.page_script.specs.declared.script.Script.{Script}
 use Rattle.page_script.specs.Lines.{IsLine, most_line}
 use Rattle.page_script.specs.World.{World, empty_world, history, MayStandNext, IsLawfulWorld, ForcesOldLocks}
 use Rattle.page_script.specs.Standing.{Stands, WorldTakesText, IfTold}
-use Rattle.script_runner.specs.declared.ending.End.{End}
-use Rattle.script_runner.specs.declared.ending.End.TheVariants as ends
-use Rattle.script_runner.specs.Drive.{script_text, WroteInPart, EndsAs, IsDrive}
-use Rattle.script_runner.specs.Running.{Start, Running, Ended}
+use Rattle.keeper.specs.declared.keeping.Keeper as keepers
+use Rattle.script_runner.specs.declared.driver.Driver.{Driver}
+use Rattle.script_runner.specs.declared.verdict.Verdict.{Verdict}
+use Rattle.script_runner.specs.declared.verdict.Verdict.TheVariants as verdicts
+use Rattle.script_runner.specs.Drive.{End, script_text, BeginsWrong, WroteInPart, Reached, EndsAs, IsDrive}
+use Rattle.script_runner.specs.Running.{HasRun, HasRunLast, KeepsFloor, Went, Waits, Gave, Breaks, Closes, Lacks}
+use Rattle.stream_run.specs.declared.consumer.Consumer.{Ghosts}
+use Rattle.stream_run.specs.declared.ending.End.TheVariants as ends
+use Rattle.stream_run.specs.Ending.{Ended, IsOver, HasRoom}
+use Rattle.stream_run.specs.Flow.{flow}
 use Rattle.script_runner.proofs.LineLemmas.{script_text-push, line_of, AreLines-push, Leads-push}
 
-module _ {K : Type 0} (CanCount : ℕ → Type 0) (told : K → Option (List ℕ → Option Item)) (count : K → ℕ) (start : Start) where
-  -- a run that has taken nothing
-  pub Running-start : (held : List ℕ) (script : Script K) → held ≡ [] → Stands CanCount told count script empty_world
-      → Running CanCount told count start start.source start.sink held script start.most
-  Running-start held script none stands = record {
-    bytes = [];
-    lines = [];
-    world = empty_world;
-    output = [];
-    given = Gives-nil start.source;
-    spelled = sym none;
-    are_lines = tt;
-    run = (refl, refl);
-    stands = stands;
-    written = Takes-nil start.sink;
-    left_is = omega arith;
-  }
+module _ {K : Type 0} (G : keepers.Ghosts K) where
+  pub HasRun-start : (held : List ℕ) (script : Script K) → held ≡ []
+      → Stands G.can_count G.told G.count script empty_world → HasRun G script [] held []
+  HasRun-start held script none stands = record { lines = []; world = empty_world; spelled =
+      sym none; are_lines = tt; run = (refl, refl); stands = stands }
 
   -- a piece more
-  pub Running-fed : (source' source'' : Option (List ℕ × List ℕ)) (sink' : Option (List ℕ)) (held held' piece : List ℕ) (script : Script K) (left left' : ℕ)
-      → Running CanCount told count start source' sink' held script left → Gives source' source'' piece → held' ≡ held ++ piece → left' + length piece ≡ left
-      → Running CanCount told count start source'' sink' held' script left'
-  Running-fed source' source'' sink' held held' piece script left left' run gives is less = record {
-    bytes = run.bytes ++ piece;
+  pub HasRun-fed : (script : Script K) (bytes held held' piece due : List ℕ)
+      → HasRun G script bytes held due → held' ≡ held ++ piece
+          → HasRun G script (bytes ++ piece) held' due
+  HasRun-fed script bytes held held' piece due run is = record {
     lines = run.lines;
     world = run.world;
-    output = run.output;
-    given = Gives-trans start.source source' source'' run.bytes piece run.given gives;
-    spelled = ap (λ t. t ++ piece) run.spelled ∙ append_assoc (script_text run.lines) held piece ∙ ap (λ h. script_text run.lines ++ h) (sym is);
+    spelled = ap (λ t. t ++ piece) run.spelled ∙ append_assoc (script_text run.lines) held piece
+        ∙ ap (λ h. script_text run.lines ++ h) (sym is);
     are_lines = run.are_lines;
     run = run.run;
     stands = run.stands;
-    written = run.written;
-    left_is = omega (arith, run.left_is, less, length-append run.bytes piece);
   }
 
-  -- nothing more
-  pub Running-same : (source' source'' : Option (List ℕ × List ℕ)) (sink' : Option (List ℕ)) (held held' : List ℕ) (script : Script K) (left : ℕ)
-      → Running CanCount told count start source' sink' held script left → Gives source' source'' [] → held' ≡ held
-      → Running CanCount told count start source'' sink' held' script left
-  Running-same source' source'' sink' held held' script left run gives is =
-      Running-fed source' source'' sink' held held' [] script left left run gives (is ∙ sym (append-nil held)) (omega arith)
-
-  -- a run that ends between two lines
-  pub stopped : (source' : Option (List ℕ × List ℕ)) (sink' : Option (List ℕ)) (held : List ℕ) (script : Script K) (left : ℕ) (end : End)
-      (run : Running CanCount told count start source' sink' held script left)
-      → EndsAs end source' start.sink sink' run.lines run.world held (length run.bytes) start.most run.output
-      → Ended CanCount told count start source' sink' script end
-  stopped source' sink' held script left end run how = record {
-    bytes = run.bytes;
-    lines = run.lines;
-    rest = held;
-    world = run.world;
-    output = run.output;
-    given = run.given;
-    within = omega (arith, run.left_is);
-    spelled = run.spelled;
-    are_lines = run.are_lines;
-    run = run.run;
-    stands = run.stands;
-    ends = how;
+  -- the last line is a line
+  pub HasRun-last : (script : Script K) (bytes rest whole last : List ℕ)
+      → HasRunLast G script bytes rest whole last → HasRun G script bytes rest (whole ++ last)
+  HasRun-last script bytes rest whole last ran = record {
+    lines = ran.earlier ++ ran.last ∷ [];
+    world = ran.world;
+    spelled = ran.spelled;
+    are_lines = ran.are_lines;
+    run = Leads-push empty_world ran.earlier ran.middle whole ran.last ran.world last ran.run
+        ran.step;
+    stands = ran.stands;
   }
-
-  pub stopped-whole : (source' : Option (List ℕ × List ℕ)) (sink' : Option (List ℕ)) (held : List ℕ) (script : Script K) (left : ℕ)
-      → Running CanCount told count start source' sink' held script left → IsAtEnd source' → held ≡ [] → 0 < left
-      → Ended CanCount told count start source' sink' script ends.Whole
-  stopped-whole source' sink' held script left run end none some =
-      stopped source' sink' held script left ends.Whole run (end, none, omega (arith, run.left_is), run.written)
-
-  -- at a line that is too long, or that the input ended in
-  pub stopped-unfinished : (source' : Option (List ℕ × List ℕ)) (sink' : Option (List ℕ)) (held : List ℕ) (script : Script K) (left : ℕ)
-      → Running CanCount told count start source' sink' held script left → HasNo 10 held → (most_line < length held) ⊎ ((held ≢ []) × IsAtEnd source') → 0 < left
-      → Ended CanCount told count start source' sink' script ends.Broken
-  stopped-unfinished source' sink' held script left run unseen why some =
-      stopped source' sink' held script left ends.Broken run (inr ((unseen, why), omega (arith, run.left_is)), run.written)
-
-  pub stopped-read : (source' : Option (List ℕ × List ℕ)) (sink' : Option (List ℕ)) (held : List ℕ) (script : Script K) (left : ℕ)
-      → Running CanCount told count start source' sink' held script left → HasNo 10 held → length held ≤ most_line → 0 < left
-      → Ended CanCount told count start source' sink' script ends.ReadFault
-  stopped-read source' sink' held script left run unseen short some =
-      stopped source' sink' held script left ends.ReadFault run (unseen, short, omega (arith, run.left_is), run.written)
-
-  pub stopped-long : (source' : Option (List ℕ × List ℕ)) (sink' : Option (List ℕ)) (held : List ℕ) (script : Script K) (left : ℕ)
-      → Running CanCount told count start source' sink' held script left → HasNo 10 held → left ≡ 0
-      → Ended CanCount told count start source' sink' script ends.Long
-  stopped-long source' sink' held script left run unseen all =
-      stopped source' sink' held script left ends.Long run (unseen, omega (arith, run.left_is, all), run.written)
-
-  -- memory was wanting for a piece that was given
-  pub stopped-unfed : (source' source'' : Option (List ℕ × List ℕ)) (sink' : Option (List ℕ)) (held piece : List ℕ) (script : Script K) (left : ℕ)
-      → Running CanCount told count start source' sink' held script left → Gives source' source'' piece → length piece ≤ left
-      → Ended CanCount told count start source'' sink' script ends.NoMemory
-  stopped-unfed source' source'' sink' held piece script left run gives within =
-      let fed = Running-fed source' source'' sink' held (held ++ piece) piece script left (left - length piece) run gives refl (omega (arith, within)) in
-      stopped source'' sink' (held ++ piece) script (left - length piece) ends.NoMemory fed (inl fed.written)
 
   -- ---- one line more
 
-  module _ (source' : Option (List ℕ × List ℕ)) (sink' : Option (List ℕ)) (held text held' : List ℕ) (script script' : Script K) (left : ℕ)
-      (run : Running CanCount told count start source' sink' held script left)
-      (split : SplitsAt 10 held text held')
-    where
-      -- no line that may follow
-      pub line-broken : script' ≡ script → ((world : World) (line : Line) → Stands CanCount told count script world → IsLine text line → MayStandNext world line → ⊥)
-          → Ended CanCount told count start source' sink' script' ends.Broken
-      line-broken same none =
-          subst (λ s. Ended CanCount told count start source' sink' s ends.Broken) (sym same)
-          (stopped source' sink' held script left ends.Broken run
-          (inl (record { text = text; behind = held'; first = split; none = λ line is may. none run.world line run.stands is may }), run.written))
+  -- the first line of the bytes held, as the calls name them
+  pub split_of : (old held shown held' : List ℕ) (len : ℕ) → held ≡ old → shown ≡ held
+      → held' ≡ drop (len + 1) held → SplitsAt 10 old (take len old) (drop (len + 1) old)
+      → SplitsAt 10 held (take len shown) held'
+  split_of old held shown held' len same shows is split =
+      subst (SplitsAt 10 held (take len shown)) (sym is)
+          (subst (λ s. SplitsAt 10 held (take len s) (drop (len + 1) held)) (sym shows)
+      (subst (λ (h : List ℕ). SplitsAt 10 h (take len h) (drop (len + 1) h)) (sym same) split))
 
-      module _ (Prints : List ℕ → Type 0) (took : WorldTakesText CanCount told count script' run.world text Prints) where
-        line_ended : (end : End) (sink'' : Option (List ℕ))
-            → EndsAs end source' start.sink sink'' (run.lines ++ took.line ∷ []) took.takes.world' held' (length run.bytes) start.most (run.output ++ took.takes.printed)
-            → Ended CanCount told count start source' sink'' script' end
-        line_ended end sink'' how = record {
-          bytes = run.bytes;
-          lines = run.lines ++ took.line ∷ [];
-          rest = held';
-          world = took.takes.world';
-          output = run.output ++ took.takes.printed;
-          given = run.given;
-          within = omega (arith, run.left_is);
-          spelled = run.spelled ∙ ap (λ h. script_text run.lines ++ h) (split.joined ∙ ap (λ t. t ++ 10 ∷ held') (sym took.is_line.spelled)) ∙ sym (script_text-push run.lines took.line held');
-          are_lines = AreLines-push run.lines took.line run.are_lines (line_of text took.line took.is_line);
-          run = Leads-push empty_world run.lines run.world run.output took.line took.takes.world' took.takes.printed run.run took.takes.step;
-          stands = took.takes.stands;
+  module _ (script script' : Script K) (bytes held text held' due : List ℕ)
+      (run : HasRun G script bytes held due) (split : SplitsAt 10 held text held') where
+    took_last : (Prints : List ℕ → Type 0)
+        → (took : WorldTakesText G.can_count G.told G.count script' run.world text Prints)
+            → HasRunLast G script' bytes held' due took.takes.printed
+    took_last Prints took = record {
+      earlier = run.lines;
+      last = took.line;
+      middle = run.world;
+      world = took.takes.world';
+      spelled =
+          run.spelled
+              ∙ ap (λ h. script_text run.lines ++ h) (split.joined
+                  ∙ ap (λ t. t ++ 10 ∷ held') (sym took.is_line.spelled))
+                      ∙ sym (script_text-push run.lines took.line held');
+      are_lines =
+          AreLines-push run.lines took.line run.are_lines (line_of text took.line took.is_line);
+      run = run.run;
+      step = took.takes.step;
+      stands = took.takes.stands;
+    }
+
+    -- a line was run, and its print was appended to nothing
+    pub line_done : (out out' : List ℕ) → out ≡ []
+        → ((world : World) → Stands G.can_count G.told G.count script world
+            → WorldTakesText G.can_count G.told G.count script' world text (λ printed.
+                out' ≡ out ++ printed))
+        → HasRunLast G script' bytes held' due (out' ++ [])
+    line_done out out' empty takes =
+        let took = takes run.world run.stands in
+        subst (HasRunLast G script' bytes held' due)
+        (sym (append-nil out' ∙ took.takes.prints ∙ ap (λ o. o ++ took.takes.printed) empty))
+        (took_last (λ printed. out' ≡ out ++ printed) took)
+
+    -- it is none that may follow
+    pub line_wrong : script' ≡ script
+        → ((world : World) (line : Line) → Stands G.can_count G.told G.count script world
+            → IsLine text line → MayStandNext world line → ⊥)
+        → (ran : HasRun G script' bytes held due) × BeginsWrong ran.world held
+    line_wrong same none =
+        subst (λ s. (ran : HasRun G s bytes held due) × BeginsWrong ran.world held) (sym same)
+        (run, record { text = text; behind = held'; first = split; none =
+            λ line is may. none run.world line run.stands is may })
+
+    -- memory was wanting
+    pub line_lacks : ((world : World) → Stands G.can_count G.told G.count script world
+        → Stands G.can_count G.told G.count script' world
+            ⊎ WorldTakesText G.can_count G.told G.count script' world text (λ printed. ⊤))
+        → (rest : List ℕ)
+            × (HasRun G script' bytes rest due
+                ⊎ ((printed : List ℕ) × HasRunLast G script' bytes rest due printed))
+    line_lacks either = of (either run.world run.stands)
+      where
+        of : Stands G.can_count G.told G.count script' run.world
+            ⊎ WorldTakesText G.can_count G.told G.count script' run.world text (λ printed. ⊤)
+            → (rest : List ℕ)
+                × (HasRun G script' bytes rest due
+                    ⊎ ((printed : List ℕ) × HasRunLast G script' bytes rest due printed))
+        of (inl stays) =
+            (held, inl (record { lines = run.lines; world = run.world; spelled =
+                run.spelled; are_lines = run.are_lines; run = run.run; stands = stays }))
+        of (inr took) = (held', inr (took.takes.printed, took_last (λ printed. ⊤) took))
+
+  -- ---- a run of the consumer
+
+  abbrev pub ghosts : Ghosts (Driver K) Verdict
+  ghosts = record {
+    went = Went G;
+    waits = Waits;
+    gave = Gave G;
+    breaks = Breaks G;
+    closes = Closes G;
+    lacks = Lacks G;
+    work = λ now. length now.held;
+    head = λ now. now.print.items;
+    body = λ now. [];
+  }
+
+  none_long : (last : List ℕ) → last ≡ [] → 0 < length last → ⊥
+  none_long last none some = let long = ap length none in omega (arith, long, some)
+
+  room_more : (more : Bool) (count most : ℕ) → IsTrue more → HasRoom more count most → count < most
+  room_more true count most is room = room
+  room_more false count most is room = cc
+
+  whole_only : (sink sink' : Option (List ℕ)) (whole last : List ℕ) → last ≡ []
+      → Takes sink sink' (whole ++ last) → Takes sink sink' whole
+  whole_only sink sink' whole last none wrote =
+      subst (Takes sink sink') (ap (λ l. whole ++ l) none ∙ append-nil whole) wrote
+
+  module _ (most : ℕ) (first now : Driver K) (source source' : Option (List ℕ
+      × List ℕ)) (sink sink' : Option (List ℕ)) where
+    -- the floor is kept at each ending
+    over_keeps : (verdict : Verdict) (bytes whole last : List ℕ)
+        → IsOver ghosts most first now source' bytes verdict whole last → (last ≡ [])
+            × KeepsFloor G first now
+    over_keeps verdicts.Whole bytes whole last (inl (closes, end, some)) = (closes.0, closes.1)
+    over_keeps verdicts.Broken bytes whole last (inl (closes, end, some)) = (closes.0, closes.1)
+    over_keeps verdicts.Whole bytes whole last (inr (more, breaks, room)) = absurd breaks
+    over_keeps verdicts.Broken bytes whole last (inr (more, breaks, room)) = (breaks.0, breaks.1)
+
+    part_keeps : (bytes whole last : List ℕ)
+        → ((verdict : Verdict) × IsOver ghosts most first now source' bytes verdict whole last)
+            ⊎ Gave G first now bytes whole last → KeepsFloor G first now
+    part_keeps bytes whole last (inl (verdict, over)) = (over_keeps verdict bytes whole last over).1
+    part_keeps bytes whole last (inr gave) = gave.1
+
+    pub floor_of : (end : End) → Ended ghosts most first now (flow source source' sink sink') end
+        → KeepsFloor G first now
+    floor_of (ends.Over verdict) run =
+        (over_keeps verdict run.taken run.ends.0 run.ends.1 run.ends.2).1
+    floor_of ends.ReadFault run = run.ends.1.1
+    floor_of ends.WriteFault run = part_keeps run.taken run.ends.0 run.ends.1 run.ends.3
+    floor_of ends.NoMemory run = run.ends.1.0
+    floor_of ends.Long run = run.ends.1.1
+
+    module _ (keeper : K)
+        (history_stands : (world : World) → Stands G.can_count G.told G.count now.script world
+            → StandsFor nothing 0 (history world.turns) (G.told keeper) (G.count keeper))
+        (lawful : (world : World) → Stands G.can_count G.told G.count now.script world
+            → IsLawfulWorld world)
+        (forced : (world : World) → Stands G.can_count G.told G.count now.script world
+            → IfTold (G.told keeper) (ForcesOldLocks world))
+      where
+        -- where a run stood that ended here
+        abbrev reached : List Line → World → List ℕ → List ℕ → ℕ → Reached
+        reached script world output rest count = record {
+          flow = flow source source' sink sink';
+          script = script;
+          world = world;
+          output = output;
+          rest = rest;
+          count = count;
+          most = most;
+        }
+
+        by_run : (end : End) (ended : Ended ghosts most first now (flow source source' sink sink')
+            end) (rest output : List ℕ) (ran : HasRun G now.script ended.taken rest output)
+            → EndsAs end (reached ran.lines ran.world output rest (length ended.taken))
+            → IsDrive G.can_count most (flow source source' sink sink') (G.told keeper)
+                (G.count keeper) end
+        by_run end ended rest output ran how = record {
+          bytes = ended.taken;
+          script = ran.lines;
+          rest = rest;
+          world = ran.world;
+          output = output;
+          given = ended.given;
+          within = ended.within;
+          spelled = ran.spelled;
+          lines = ran.are_lines;
+          run = ran.run;
+          counts = ran.stands.desk.counts;
+          stands = history_stands ran.world ran.stands;
+          lawful = lawful ran.world ran.stands;
+          forced = forced ran.world ran.stands;
           ends = how;
         }
 
-        in_part : (n : ℕ) (sink'' : Option (List ℕ)) → n ≤ length took.takes.printed → Takes sink' sink'' (take n took.takes.printed)
-            → WroteInPart (run.lines ++ took.line ∷ []) took.takes.world' (run.output ++ took.takes.printed) n start.sink sink''
-        in_part n sink'' within wrote = record {
-          earlier = run.lines;
-          last = took.line;
-          middle = run.world;
-          before = run.output;
-          printed = took.takes.printed;
+        wrote_in_part : (bytes rest whole last : List ℕ)
+            (ran : HasRunLast G now.script bytes rest whole last) (n : ℕ) → n ≤ length last
+                → Takes sink sink' (whole ++ take n last)
+            → WroteInPart (ran.earlier ++ ran.last ∷ []) ran.world (whole ++ last) n sink sink'
+        wrote_in_part bytes rest whole last ran n within wrote = record {
+          earlier = ran.earlier;
+          last = ran.last;
+          middle = ran.middle;
+          before = whole;
+          printed = last;
           lines = refl;
-          run = run.run;
-          step = took.takes.step;
+          run = ran.run;
+          step = ran.step;
           whole = refl;
           within = within;
-          written = Takes-trans start.sink sink' sink'' run.output (take n took.takes.printed) run.written wrote;
+          written = wrote;
         }
 
-        part-no_memory : Ended CanCount told count start source' sink' script' ends.NoMemory
-        part-no_memory = line_ended ends.NoMemory sink' (inr (in_part 0 sink' (omega arith) (Takes-nil sink')))
+        over_drive : (verdict : Verdict)
+            (ended : Ended ghosts most first now (flow source source' sink sink')
+                (ends.Over verdict)) (whole last : List ℕ)
+            → IsOver ghosts most first now source' ended.taken verdict whole last
+                → Takes sink sink' (whole ++ last)
+            → IsDrive G.can_count most (flow source source' sink sink') (G.told keeper)
+                (G.count keeper) (ends.Over verdict)
+        over_drive verdicts.Whole ended whole last (inl (closes, end, some)) wrote =
+            by_run (ends.Over verdicts.Whole) ended now.held whole closes.2
+                (end, closes.3, some, whole_only sink sink' whole last closes.0 wrote)
+        over_drive verdicts.Broken ended whole last (inl (closes, end, some)) wrote =
+            by_run (ends.Over verdicts.Broken) ended now.held whole closes.2
+                (inr ((closes.3, inr (closes.4, end)), some), whole_only sink sink' whole last
+                    closes.0 wrote)
+        over_drive verdicts.Whole ended whole last (inr (more, breaks, room)) wrote = absurd breaks
+        over_drive verdicts.Broken ended whole last (inr (more, breaks, room)) wrote = of breaks.2.1
+          where
+            of : BeginsWrong breaks.2.0.world now.held
+                ⊎ (HasNo 10 now.held × (most_line < length now.held) × IsTrue more)
+                → IsDrive G.can_count most (flow source source' sink sink') (G.told keeper)
+                    (G.count keeper) (ends.Over verdicts.Broken)
+            of (inl wrong) =
+                by_run (ends.Over verdicts.Broken) ended now.held whole breaks.2.0
+                    (inl wrong, whole_only sink sink' whole last breaks.0 wrote)
+            of (inr (unseen, long, is)) =
+                by_run (ends.Over verdicts.Broken) ended now.held whole breaks.2.0
+                (inr ((unseen, inl long), room_more more (length ended.taken) most is room),
+                    whole_only sink sink' whole last breaks.0 wrote)
 
-        -- it was printed whole
-        line-on : (sink'' : Option (List ℕ)) → Takes sink' sink'' took.takes.printed → Running CanCount told count start source' sink'' held' script' left
-        line-on sink'' wrote = record {
-          bytes = run.bytes;
-          lines = run.lines ++ took.line ∷ [];
-          world = took.takes.world';
-          output = run.output ++ took.takes.printed;
-          given = run.given;
-          spelled = run.spelled ∙ ap (λ h. script_text run.lines ++ h) (split.joined ∙ ap (λ t. t ++ 10 ∷ held') (sym took.is_line.spelled)) ∙ sym (script_text-push run.lines took.line held');
-          are_lines = AreLines-push run.lines took.line run.are_lines (line_of text took.line took.is_line);
-          run = Leads-push empty_world run.lines run.world run.output took.line took.takes.world' took.takes.printed run.run took.takes.step;
-          stands = took.takes.stands;
-          written = Takes-trans start.sink sink' sink'' run.output took.takes.printed run.written wrote;
-          left_is = run.left_is;
-        }
+        part_drive : (ended : Ended ghosts most first now (flow source source' sink sink')
+            ends.WriteFault) (whole last : List ℕ) (n : ℕ)
+            → ((verdict : Verdict)
+                × IsOver ghosts most first now source' ended.taken verdict whole last)
+                    ⊎ Gave G first now ended.taken whole last
+            → 0 < length last → n ≤ length last → Takes sink sink' (whole ++ take n last)
+                → IsDrive G.can_count most (flow source source' sink sink') (G.told keeper)
+                    (G.count keeper) ends.WriteFault
+        unfolding HasRun-last
+        part_drive ended whole last n (inl (verdict, over)) some within wrote =
+            absurd (none_long last (over_keeps verdict ended.taken whole last over).0 some)
+        part_drive ended whole last n (inr gave) some within wrote =
+            by_run ends.WriteFault ended now.held (whole ++ last)
+                (HasRun-last now.script ended.taken now.held whole last gave.0)
+            (n, wrote_in_part ended.taken now.held whole last gave.0 n within wrote)
 
-      -- a line was run, and its print was written
-      pub line-written : (due : List ℕ) (sink'' : Option (List ℕ))
-          → ((world : World) → Stands CanCount told count script world → WorldTakesText CanCount told count script' world text (λ printed. due ≡ printed))
-          → Takes sink' sink'' due → Running CanCount told count start source' sink'' held' script' left
-      line-written due sink'' takes wrote =
-          let took = takes run.world run.stands in
-          line-on (λ printed. due ≡ printed) took sink'' (subst (Takes sink' sink'') took.takes.prints wrote)
+        lacks_drive : (ended : Ended ghosts most first now (flow source source' sink sink')
+            ends.NoMemory) (due rest : List ℕ)
+            → HasRun G now.script ended.taken rest due
+                ⊎ ((printed : List ℕ) × HasRunLast G now.script ended.taken rest due printed)
+                    → Takes sink sink' due
+            → IsDrive G.can_count most (flow source source' sink sink') (G.told keeper)
+                (G.count keeper) ends.NoMemory
+        unfolding HasRun-last
+        lacks_drive ended due rest (inl ran) wrote =
+            by_run ends.NoMemory ended rest due ran (inl wrote)
+        lacks_drive ended due rest (inr (printed, ran)) wrote =
+            by_run ends.NoMemory ended rest (due ++ printed)
+                (HasRun-last now.script ended.taken rest due printed ran)
+            (inr (wrote_in_part ended.taken rest due printed ran 0 (omega arith)
+                (subst (Takes sink sink') (sym (append-nil due)) wrote)))
 
-      front_is : (due printed : List ℕ) (sink'' : Option (List ℕ)) → due ≡ printed → TakesFront sink' sink'' due → TakesFront sink' sink'' printed
-      front_is due printed sink'' is front = subst (TakesFront sink' sink'') is front
-
-      -- the sink failed at its print
-      pub line-write_fault : (due : List ℕ) (sink'' : Option (List ℕ))
-          → ((world : World) → Stands CanCount told count script world → WorldTakesText CanCount told count script' world text (λ printed. due ≡ printed))
-          → TakesFront sink' sink'' due → Ended CanCount told count start source' sink'' script' ends.WriteFault
-      line-write_fault due sink'' takes wrote =
-          let took = takes run.world run.stands in
-          let front = front_is due took.takes.printed sink'' took.takes.prints wrote in
-          line_ended (λ printed. due ≡ printed) took ends.WriteFault sink'' (front.0, in_part (λ printed. due ≡ printed) took front.0 sink'' front.1 front.2)
-
-      stays_or_takes : Stands CanCount told count script' run.world ⊎ WorldTakesText CanCount told count script' run.world text (λ printed. ⊤)
-          → Ended CanCount told count start source' sink' script' ends.NoMemory
-      stays_or_takes (inl stays) = record {
-        bytes = run.bytes;
-        lines = run.lines;
-        rest = held;
-        world = run.world;
-        output = run.output;
-        given = run.given;
-        within = omega (arith, run.left_is);
-        spelled = run.spelled;
-        are_lines = run.are_lines;
-        run = run.run;
-        stands = stays;
-        ends = inl run.written;
-      }
-      stays_or_takes (inr took) = part-no_memory (λ printed. ⊤) took
-
-      -- memory was wanting
-      pub line-no_memory : ((world : World) → Stands CanCount told count script world → Stands CanCount told count script' world ⊎ WorldTakesText CanCount told count script' world text (λ printed. ⊤))
-          → Ended CanCount told count start source' sink' script' ends.NoMemory
-      line-no_memory either = stays_or_takes (either run.world run.stands)
-
-  -- ---- the keeper that is handed back
-
-  pub drive_of : (source' : Option (List ℕ × List ℕ)) (sink' : Option (List ℕ)) (script : Script K) (keeper : K) (end : End)
-      → ((world : World) → Stands CanCount told count script world → StandsFor nothing 0 (history world.turns) (told keeper) (count keeper))
-      → ((world : World) → Stands CanCount told count script world → IsLawfulWorld world)
-      → ((world : World) → Stands CanCount told count script world → IfTold (told keeper) (ForcesOldLocks world))
-      → Ended CanCount told count start source' sink' script end
-      → IsDrive CanCount start.most start.source source' start.sink sink' (told keeper) (count keeper) end
-  drive_of source' sink' script keeper end stands lawful forced ended = record {
-    bytes = ended.bytes;
-    script = ended.lines;
-    rest = ended.rest;
-    world = ended.world;
-    output = ended.output;
-    given = ended.given;
-    within = ended.within;
-    spelled = ended.spelled;
-    lines = ended.are_lines;
-    run = ended.run;
-    counts = ended.stands.desk.counts;
-    stands = stands ended.world ended.stands;
-    lawful = lawful ended.world ended.stands;
-    forced = forced ended.world ended.stands;
-    ends = ended.ends;
-  }
+        pub drive_of : (end : End)
+            → Ended ghosts most first now (flow source source' sink sink') end
+                → IsDrive G.can_count most (flow source source' sink sink') (G.told keeper)
+                    (G.count keeper) end
+        drive_of (ends.Over verdict) ended =
+            over_drive verdict ended ended.ends.0 ended.ends.1 ended.ends.2 ended.ends.3
+        drive_of ends.ReadFault ended =
+            let (due, went, waits, some, wrote) = ended.ends in
+            by_run ends.ReadFault ended now.held due went.0 (waits.0, waits.1 refl, some, wrote)
+        drive_of ends.WriteFault ended =
+            part_drive ended ended.ends.0 ended.ends.1 ended.ends.2 ended.ends.3 ended.ends.4
+                ended.ends.5 ended.ends.6
+        drive_of ends.NoMemory ended =
+            lacks_drive ended ended.ends.0 ended.ends.1.1.0 ended.ends.1.1.1 ended.ends.2
+        drive_of ends.Long ended =
+            let (due, went, waits, all, wrote) = ended.ends in
+            by_run ends.Long ended now.held due went.0 (waits.0, all, wrote)

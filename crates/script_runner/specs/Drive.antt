@@ -10,8 +10,12 @@ use Rattle.page_script.specs.declared.line.Line.{Line}
 use Rattle.page_script.specs.Lines.{line_text, IsLine, most_line}
 use Rattle.page_script.specs.World.{World, history, MayStandNext, WorldStep, IsWorldRun, IsLawfulWorld, ForcesOldLocks}
 use Rattle.page_script.specs.Standing.{IfTold}
-use Rattle.script_runner.specs.declared.ending.End.{End}
-use Rattle.script_runner.specs.declared.ending.End.TheVariants.{Whole, Broken, ReadFault, WriteFault, NoMemory, Long}
+use Rattle.script_runner.specs.declared.verdict.Verdict.{Verdict}
+use Rattle.script_runner.specs.declared.verdict.Verdict.TheVariants.{Whole, Broken}
+use Rattle.stream_run.specs.Flow.{Flow}
+use Rattle.stream_run.specs.Status.{status_number as status_with}
+use Rattle.stream_run.specs.declared.ending.End as run
+use Rattle.stream_run.specs.declared.ending.End.TheVariants.{Over, ReadFault, WriteFault, NoMemory, Long}
 
 -- ---- lines in bytes
 
@@ -33,12 +37,19 @@ pub record BeginsWrong (world : World) (rest : List ℕ) : Type 0 where
 
 -- the rest is no whole line: it is longer than a line may be, or the input ended inside it
 abbrev pub IsUnfinished : Option (List ℕ × List ℕ) → List ℕ → Type 0
-IsUnfinished source' rest = HasNo 10 rest × ((most_line < length rest) ⊎ ((rest ≢ []) × IsAtEnd source'))
+IsUnfinished source' rest =
+    HasNo 10 rest × ((most_line < length rest) ⊎ ((rest ≢ []) × IsAtEnd source'))
 
 -- ---- endings
 
--- The last line is a step whose print failed: all that was printed before it was written, and so many bytes of its own print.
-pub record WroteInPart (script : List Line) (world : World) (output : List ℕ) (count : ℕ) (sink sink' : Option (List ℕ)) : Type 0 where
+-- how a run ends
+abbrev pub End : Type 0
+End = run.End Verdict
+
+-- The last line is a step whose print failed: all that was printed before it was written, and so
+-- many bytes of its own print.
+pub record WroteInPart (script : List Line) (world : World) (output : List ℕ) (count : ℕ)
+    (sink sink' : Option (List ℕ)) : Type 0 where
   pub earlier : List Line
   pub last : Line
   pub middle : World
@@ -51,43 +62,61 @@ pub record WroteInPart (script : List Line) (world : World) (output : List ℕ) 
   pub within : count ≤ length printed
   pub written : Takes sink sink' (before ++ take count printed)
 
--- What holds at each ending: of the source and the sink after it, of the rest behind the lines that were run, of how many bytes were
--- taken of the most, and of the lines, the world after them and what they print. Where memory was wanting in a step, the step was made,
--- and its print is not written; or it was not made.
-abbrev pub EndsAs : End → Option (List ℕ × List ℕ) → Option (List ℕ) → Option (List ℕ) → List Line → World → List ℕ → ℕ → ℕ → List ℕ → Type 0
-EndsAs Whole source' sink sink' script world rest count most output = IsAtEnd source' × (rest ≡ []) × (count < most) × Takes sink sink' output
-EndsAs Broken source' sink sink' script world rest count most output =
-    (BeginsWrong world rest ⊎ (IsUnfinished source' rest × (count < most))) × Takes sink sink' output
-EndsAs ReadFault source' sink sink' script world rest count most output =
-    HasNo 10 rest × (length rest ≤ most_line) × (count < most) × Takes sink sink' output
-EndsAs WriteFault source' sink sink' script world rest count most output = (n : ℕ) × WroteInPart script world output n sink sink'
-EndsAs NoMemory source' sink sink' script world rest count most output =
-    Takes sink sink' output ⊎ WroteInPart script world output 0 sink sink'
-EndsAs Long source' sink sink' script world rest count most output = HasNo 10 rest × (count ≡ most) × Takes sink sink' output
+-- Where a run stood when it ended: the flow of its bytes, the lines that were run, the world after
+-- them and what they print, the rest behind them, and how many bytes were taken of the most.
+pub record Reached : Type 0 where
+  pub flow : Flow
+  pub script : List Line
+  pub world : World
+  pub output : List ℕ
+  pub rest : List ℕ
+  pub count : ℕ
+  pub most : ℕ
 
--- the exit status of an ending
+-- all that was printed was written
+abbrev pub WroteAll : Reached → Type 0
+WroteAll r = Takes r.flow.sink r.flow.sink' r.output
+
+-- so many bytes of the last print, and all before it, were written
+abbrev pub WroteLast : Reached → ℕ → Type 0
+WroteLast r count = WroteInPart r.script r.world r.output count r.flow.sink r.flow.sink'
+
+-- What holds at each ending. Where memory was wanting in a step, the step was made, and its print
+-- is not written; or it was not made.
+abbrev pub EndsAs : End → Reached → Type 0
+EndsAs (Over Whole) r = IsAtEnd r.flow.source' × (r.rest ≡ []) × (r.count < r.most) × WroteAll r
+EndsAs (Over Broken) r =
+    (BeginsWrong r.world r.rest ⊎ (IsUnfinished r.flow.source' r.rest × (r.count < r.most)))
+        × WroteAll r
+EndsAs ReadFault r = HasNo 10 r.rest × (length r.rest ≤ most_line) × (r.count < r.most) × WroteAll r
+EndsAs WriteFault r = (n : ℕ) × WroteLast r n
+EndsAs NoMemory r = WroteAll r ⊎ WroteLast r 0
+EndsAs Long r = HasNo 10 r.rest × (r.count ≡ r.most) × WroteAll r
+
+-- the exit status of what was found
+abbrev pub verdict_number : Verdict → ℕ
+verdict_number Whole = 0
+verdict_number Broken = 3
+
+-- the exit status of an ending: 4 to 7 where it was stopped
 abbrev pub status_number : End → ℕ
-status_number Whole = 0
-status_number Broken = 3
-status_number ReadFault = 4
-status_number WriteFault = 5
-status_number NoMemory = 6
-status_number Long = 7
+status_number end = status_with verdict_number end
 
 -- ---- a run
 
--- A run: the bytes taken are lines of a script and a rest; the lines lead from the empty world to a world, and print an output, which was
--- written as the ending says; the keeper that is handed back has the items and the count after the requests of that world; its pages
--- are lawful, and release by force only locks that are in force and old. (CanCount says which counts of faults the keeper's
+-- A run: the bytes taken are lines of a script and a rest; the lines lead from the empty world to a
+-- world, and print an output, which was written as the ending says; the keeper that is handed back
+-- has the items and the count after the requests of that world; its pages are lawful, and release
+-- by force only locks that are in force and old. (CanCount says which counts of faults the keeper's
 -- type can have; told and faults are what the keeper tells and counts after the run.)
-pub record IsDrive (CanCount : ℕ → Type 0) (most : ℕ) (source source' : Option (List ℕ × List ℕ)) (sink sink' : Option (List ℕ))
+pub record IsDrive (CanCount : ℕ → Type 0) (most : ℕ) (f : Flow)
     (told : Option (List ℕ → Option Item)) (faults : ℕ) (end : End) : Type 0 where
   pub bytes : List ℕ
   pub script : List Line
   pub rest : List ℕ
   pub world : World
   pub output : List ℕ
-  pub given : Gives source source' bytes
+  pub given : Gives f.source f.source' bytes
   pub within : length bytes ≤ most
   pub spelled : bytes ≡ script_text script ++ rest
   pub lines : AreLines script
@@ -96,11 +125,20 @@ pub record IsDrive (CanCount : ℕ → Type 0) (most : ℕ) (source source' : Op
   pub stands : StandsFor nothing 0 (history world.turns) told faults
   pub lawful : IsLawfulWorld world
   pub forced : IfTold told (ForcesOldLocks world)
-  pub ends : EndsAs end source' sink sink' script world rest (length bytes) most output
+  pub ends : EndsAs end (record {
+    flow = f;
+    script = script;
+    world = world;
+    output = output;
+    rest = rest;
+    count = length bytes;
+    most = most;
+  })
 
 -- the text is a script: lines that lead from the empty world to some world
 abbrev pub IsScript : List ℕ → Type 0
-IsScript text = (script : List Line) × (world : World) × (output : List ℕ) × (text ≡ script_text script) × AreLines script × IsWorldRun script world output
+IsScript text = (script : List Line) × (world : World) × (output : List ℕ)
+    × (text ≡ script_text script) × AreLines script × IsWorldRun script world output
 
 -- the source tells an input that is a script
 abbrev pub TellsScript : Option (List ℕ × List ℕ) → Type 0

@@ -1,48 +1,74 @@
--- Inside a run: where it stands between two lines, and where it ended.
-use Rattle.std.specs.Prelude.{◌≡◌, ℕ, ◌+◌, ◌≤◌, List, ◌++◌, length, Option}
-use Rattle.asp_base.specs.Outside.{Gives, Takes}
-use Rattle.session_machine.specs.declared.item.Item.{Item}
+-- Inside a run: where it stands between two lines.
+use Rattle.std.specs.Prelude.{◌≡◌, ◌≢◌, ◌⊎◌, ℕ, ◌<◌, ◌≤◌, Bool, List, [], ◌∷◌, ◌++◌, length, IsTrue}
+use Rattle.keeper.specs.declared.keeping.Keeper.{Ghosts}
 use Rattle.page_script.specs.declared.line.Line.{Line}
 use Rattle.page_script.specs.declared.script.Script.{Script}
-use Rattle.page_script.specs.World.{World, IsWorldRun}
-use Rattle.page_script.specs.Standing.{Stands}
-use Rattle.script_runner.specs.declared.ending.End.{End}
-use Rattle.script_runner.specs.Drive.{script_text, AreLines, EndsAs}
+use Rattle.page_script.specs.Lines.{most_line}
+use Rattle.page_script.specs.World.{World, IsWorldRun, WorldStep}
+use Rattle.page_script.specs.Standing.{Stands, keeper_of}
+use Rattle.plain_words.specs.Words.{HasNo}
+use Rattle.script_runner.specs.declared.driver.Driver.{Driver}
+use Rattle.script_runner.specs.declared.verdict.Verdict.{Verdict}
+use Rattle.script_runner.specs.declared.verdict.Verdict.TheVariants.{Whole, Broken}
+use Rattle.script_runner.specs.Drive.{script_text, AreLines, BeginsWrong}
 
--- Where a run began: the most bytes that it may take, its source, and its sink.
-pub record Start : Type 0 where
-  pub most : ℕ
-  pub source : Option (List ℕ × List ℕ)
-  pub sink : Option (List ℕ)
+-- no whole line is held, and no more of one than it may have, if more bytes could follow
+abbrev pub Waits : {K : Type 0} → Bool → Driver K → Type 0
+Waits more now = HasNo 10 now.held × (IsTrue more → length now.held ≤ most_line)
 
--- A run up to now: the bytes taken are lines and what is held, the lines lead to a world that the script stands for, and what they
--- print was written; so many bytes may still be taken. (CanCount, told and count are those of the keeper's type.)
-pub record Running {K : Type 0} (CanCount : ℕ → Type 0) (told : K → Option (List ℕ → Option Item)) (count : K → ℕ) (start : Start)
-    (source' : Option (List ℕ × List ℕ)) (sink' : Option (List ℕ)) (held : List ℕ) (script : Script K) (left : ℕ) : Type 0 where
-  pub bytes : List ℕ
-  pub lines : List Line
-  pub world : World
-  pub output : List ℕ
-  pub given : Gives start.source source' bytes
-  pub spelled : bytes ≡ script_text lines ++ held
-  pub are_lines : AreLines lines
-  pub run : IsWorldRun lines world output
-  pub stands : Stands CanCount told count script world
-  pub written : Takes start.sink sink' output
-  pub left_is : length bytes + left ≡ start.most
+module _ {K : Type 0} (G : Ghosts K) where
+  -- The bytes are lines and a rest; the lines lead to a world that the script stands for, and print
+  -- the output.
+  pub record HasRun (script : Script K) (bytes rest output : List ℕ) : Type 0 where
+    pub lines : List Line
+    pub world : World
+    pub spelled : bytes ≡ script_text lines ++ rest
+    pub are_lines : AreLines lines
+    pub run : IsWorldRun lines world output
+    pub stands : Stands G.can_count G.told G.count script world
 
--- A run that ended, before its keeper is handed back.
-pub record Ended {K : Type 0} (CanCount : ℕ → Type 0) (told : K → Option (List ℕ → Option Item)) (count : K → ℕ) (start : Start)
-    (source' : Option (List ℕ × List ℕ)) (sink' : Option (List ℕ)) (script : Script K) (end : End) : Type 0 where
-  pub bytes : List ℕ
-  pub lines : List Line
-  pub rest : List ℕ
-  pub world : World
-  pub output : List ℕ
-  pub given : Gives start.source source' bytes
-  pub within : length bytes ≤ start.most
-  pub spelled : bytes ≡ script_text lines ++ rest
-  pub are_lines : AreLines lines
-  pub run : IsWorldRun lines world output
-  pub stands : Stands CanCount told count script world
-  pub ends : EndsAs end source' start.sink sink' lines world rest (length bytes) start.most output
+  -- The same, and the last of the lines prints what is behind that.
+  pub record HasRunLast (script : Script K) (bytes rest output printed : List ℕ) : Type 0 where
+    pub earlier : List Line
+    pub last : Line
+    pub middle : World
+    pub world : World
+    pub spelled : bytes ≡ script_text (earlier ++ last ∷ []) ++ rest
+    pub are_lines : AreLines (earlier ++ last ∷ [])
+    pub run : IsWorldRun earlier middle output
+    pub step : WorldStep middle last world printed
+    pub stands : Stands G.can_count G.told G.count script world
+
+  -- no cookie may be drawn below the same number
+  abbrev pub KeepsFloor : Driver K → Driver K → Type 0
+  KeepsFloor first now = G.floor (keeper_of now.script) ≡ G.floor (keeper_of first.script)
+
+  -- ---- a script as a consumer
+
+  abbrev pub Went : Driver K → Driver K → List ℕ → List ℕ → Type 0
+  Went first now bytes due = HasRun now.script bytes now.held due × KeepsFloor first now
+
+  abbrev pub Gave : Driver K → Driver K → List ℕ → List ℕ → List ℕ → Type 0
+  Gave first now bytes whole last = HasRunLast now.script bytes now.held whole last
+      × KeepsFloor first now
+
+  -- the line that is held first is none, or too long
+  abbrev pub Breaks : Bool → Verdict → Driver K → Driver K → List ℕ → List ℕ → List ℕ → Type 0
+  Breaks more Whole first now bytes whole last = ⊥
+  Breaks more Broken first now bytes whole last = (last ≡ []) × KeepsFloor first now
+      × ((run : HasRun now.script bytes now.held whole)
+        × (BeginsWrong run.world now.held
+          ⊎ (HasNo 10 now.held × (most_line < length now.held) × IsTrue more)))
+
+  -- the input ended behind a line, or inside one
+  abbrev pub Closes : Verdict → Driver K → Driver K → List ℕ → List ℕ → List ℕ → Type 0
+  Closes Whole first now bytes whole last = (last ≡ []) × KeepsFloor first now
+      × HasRun now.script bytes now.held whole × (now.held ≡ [])
+  Closes Broken first now bytes whole last = (last ≡ []) × KeepsFloor first now
+      × HasRun now.script bytes now.held whole × HasNo 10 now.held × (now.held ≢ [])
+
+  -- no line was run, or one whose print is not written
+  abbrev pub Lacks : Driver K → Driver K → List ℕ → List ℕ → Type 0
+  Lacks first now bytes due = KeepsFloor first now
+      × ((rest : List ℕ) × (HasRun now.script bytes rest due
+        ⊎ ((printed : List ℕ) × HasRunLast now.script bytes rest due printed)))

@@ -2,12 +2,10 @@
 #![tactic(auto)]
 
 mod drive;
-mod ending;
-mod reading;
-mod running;
-mod runs;
+mod driver;
 #[cfg(test)]
 mod tests;
+mod verdict;
 
-pub use ending::End;
-pub use runs::run_drive;
+pub use drive::run_drive;
+pub use verdict::{End, Verdict};
