@@ -1,58 +1,93 @@
 -- A run of whole messages, where nothing fails, answers them all.
 use Rattle.std.proofs.Common.{◌≡◌, ℕ, List, [], ◌∷◌, ◌++◌, length, Option, Some, None, refl, sym, ap, ◌∙◌, arith, subst, inl, inr, append_assoc, append-nil, length-append}
-use Rattle.std.specs.Prelude.{◌⊎◌}
+use Rattle.std.specs.Prelude.{◌⊎◌, ◌≢◌, Bool}
 use Rattle.asp_messages.specs.declared.request.Message.{Message}
 use Rattle.asp_messages.specs.RequestSpelling.{SpellsRequest}
-use Rattle.asp_messages.specs.Stream.{Spelled, HasNoMessage}
+use Rattle.asp_messages.specs.Stream.{Spelled, HasNoMessage, IsHopeless}
 use Rattle.asp_messages.proofs.RequestLemmas.{spelling_some, SpellsRequest-unique}
-use Rattle.session_machine.specs.declared.item.Item.{Item}
-use Rattle.asp_state.specs.declared.pipe.Pipe.{Pipe}
-use Rattle.asp_state.specs.declared.pipe.End.{End}
-use Rattle.asp_state.specs.declared.pipe.End.TheVariants as ends
-use Rattle.asp_state.specs.Run.{IsRun, IsWholeInput, IsBroken, status_number}
+use Rattle.keeper.specs.declared.keeping.Keeper as keepers
+use Rattle.stream_run.specs.declared.ending.End.TheVariants as ends
+use Rattle.stream_run.specs.Ending.{IfFewer, IsComplete}
+use Rattle.stream_run.specs.Flow.{Flow}
+use Rattle.asp_state.specs.declared.pipe.Verdict.TheVariants as verdicts
+use Rattle.asp_state.specs.declared.responder.Responder.{Responder}
+use Rattle.asp_state.specs.Responding.{Breaks, Closes, HasAnswered}
+use Rattle.asp_state.specs.Run.{End, IsWholeInput, status_number}
+use Rattle.asp_state.proofs.EndingLemmas.{ghosts, hopeless_some}
 
 nothing_front : (a b : List ℕ) → a ++ b ≡ [] → a ≡ []
 nothing_front [] b none = refl
 nothing_front (x ∷ a) b none = cc
 
--- where bytes and more are whole messages, so is what is left behind the messages that the bytes begin with
-rest_whole : (bytes rest more : List ℕ) (ms all : List Message) → Spelled SpellsRequest bytes ms rest → Spelled SpellsRequest (bytes ++ more) all []
+-- where bytes and more are whole messages, so is what is left behind the messages that the bytes
+-- begin with
+rest_whole : (bytes rest more : List ℕ) (ms all : List Message)
+    → Spelled SpellsRequest bytes ms rest → Spelled SpellsRequest (bytes ++ more) all []
     → (left : List Message) × Spelled SpellsRequest (rest ++ more) left []
-rest_whole bytes rest more [] all is whole = (all, subst (λ t. Spelled SpellsRequest (t ++ more) all []) is whole)
+rest_whole bytes rest more [] all is whole =
+    (all, subst (λ t. Spelled SpellsRequest (t ++ more) all []) is whole)
 rest_whole bytes rest more (m ∷ ms) [] (front, back, is, one, others) whole =
-    let empty = nothing_front front (back ++ more) (sym (append_assoc front back more) ∙ ap (λ t. t ++ more) (sym is) ∙ whole) in
+    let empty =
+        nothing_front front (back ++ more) (sym (append_assoc front back more)
+            ∙ ap (λ t. t ++ more) (sym is) ∙ whole) in
     absurd (omega (arith, spelling_some front m one, ap length empty))
-rest_whole bytes rest more (m ∷ ms) (n ∷ ns) (front, back, is, one, others) (front', back', is', other, behind) =
-    let same = SpellsRequest-unique (bytes ++ more) front (back ++ more) front' back' m n (ap (λ t. t ++ more) is ∙ append_assoc front back more) one is' other in
-    rest_whole back rest more ms ns others (subst (λ t. Spelled SpellsRequest t ns []) (sym same.1) behind)
+rest_whole bytes rest more (m ∷ ms) (n ∷ ns) (front, back, is, one, others)
+    (front', back', is', other, behind) =
+    let same =
+        SpellsRequest-unique (bytes ++ more) front (back ++ more) front' back' m n
+            (ap (λ t. t ++ more) is ∙ append_assoc front back more) one is' other in
+    rest_whole back rest more ms ns others
+        (subst (λ t. Spelled SpellsRequest t ns []) (sym same.1) behind)
 
--- a rest that is broken is no front of whole messages
-broken-whole : (source' : List ℕ × List ℕ) (rest : List ℕ) (left : List Message) → IsBroken (Some source') rest → HasNoMessage SpellsRequest rest
-    → Spelled SpellsRequest (rest ++ source'.1) left [] → ⊥
-broken-whole source' rest [] broken none whole = broken.0 (nothing_front rest source'.1 whole)
-broken-whole source' rest (m ∷ ms) (some, inl hopeless) none (front, back, is, one, others) = hopeless source'.1 front back m is one
-broken-whole source' rest (m ∷ ms) (some, inr end) none (front, back, is, one, others) =
-    none front back m (sym (append-nil rest) ∙ ap (λ t. rest ++ t) (sym end) ∙ is) one
+-- a rest with no message in front is no whole messages
+ended_whole : (rest : List ℕ) (left : List Message) → rest ≢ [] → HasNoMessage SpellsRequest rest
+    → Spelled SpellsRequest (rest ++ []) left [] → ⊥
+ended_whole rest [] some none whole = some (nothing_front rest [] whole)
+ended_whole rest (m ∷ ms) some none (front, back, is, one, others) =
+    none front back m (sym (append-nil rest) ∙ is) one
 
-module _ (CanCount : ℕ → Type 0) (pipe : Pipe) (sink sink' : Option (List ℕ)) (told : Option (List ℕ → Option Item)) (faults : ℕ) where
-  long-whole : (source source' : Option (List ℕ × List ℕ)) → IsRun CanCount pipe source source' sink sink' told faults ends.Long → IsWholeInput source pipe.most → ⊥
-  long-whole None source' run whole = whole
-  long-whole (Some old) None run whole = absurd run.given
-  long-whole (Some old) (Some new) run whole =
-      omega (arith, run.ends.1, whole.0, ap length run.given.1, length-append run.bytes new.1)
+-- nor is a hopeless one a front of them
+hopeless_whole : (rest more : List ℕ) (left : List Message) → IsHopeless SpellsRequest rest
+    → Spelled SpellsRequest (rest ++ more) left [] → ⊥
+hopeless_whole rest more [] hopeless whole =
+    hopeless_some rest hopeless (nothing_front rest more whole)
+hopeless_whole rest more (m ∷ ms) hopeless (front, back, is, one, others) =
+    hopeless more front back m is one
 
-  broken_run-whole : (source source' : Option (List ℕ × List ℕ)) → IsRun CanCount pipe source source' sink sink' told faults ends.Broken → IsWholeInput source pipe.most → ⊥
-  broken_run-whole None source' run whole = whole
-  broken_run-whole (Some old) None run whole = absurd run.given
-  broken_run-whole (Some old) (Some new) run whole =
-      let left = rest_whole run.bytes run.rest new.1 run.messages whole.1.0 run.spelled (subst (λ t. Spelled SpellsRequest t whole.1.0 []) run.given.1 whole.1.1) in
-      broken-whole new run.rest left.0 run.ends.0 run.ends.1 left.1
+-- ---- what the loop's clause says of an input that is told
 
-  pub complete_run : (source source' : Option (List ℕ × List ℕ)) (end : End) → IsRun CanCount pipe source source' sink sink' told faults end → IsWholeInput source pipe.most
-      → (end ≡ ends.ReadFault → ⊥) → (end ≡ ends.WriteFault → ⊥) → (status_number end ≡ 0) ⊎ (status_number end ≡ 6)
-  complete_run source source' ends.Whole run whole read write = inl refl
-  complete_run source source' ends.Broken run whole read write = absurd (broken_run-whole source source' run whole)
-  complete_run source source' ends.ReadFault run whole read write = absurd (read refl)
-  complete_run source source' ends.WriteFault run whole read write = absurd (write refl)
-  complete_run source source' ends.NoMemory run whole read write = inr refl
-  complete_run source source' ends.Long run whole read write = absurd (long-whole source source' run whole)
+module _ {K : Type 0} (G : keepers.Ghosts K) (most : ℕ) (first now : Responder K) (f : Flow) where
+  -- a front of whole messages that was answered, and more behind it
+  left_whole : (front more rest due : List ℕ) (all : List Message)
+      → HasAnswered G first now front rest due → Spelled SpellsRequest (front ++ more) all []
+      → (left : List Message) × Spelled SpellsRequest (rest ++ more) left []
+  left_whole front more rest due all has whole =
+      rest_whole front rest more has.progress.messages all has.progress.spelled whole
+
+  broken_whole : (input whole last : List ℕ) (all : List Message)
+      → Closes G verdicts.Broken first now input whole last
+        ⊎ ((front : List ℕ) × (behind : List ℕ) × (more : Bool) × (input ≡ front ++ behind)
+          × Breaks G more verdicts.Broken first now front whole last)
+      → Spelled SpellsRequest input all [] → ⊥
+  broken_whole input whole last all (inl (closing, (rest, some, none, has))) spelled =
+      let left = left_whole input [] rest whole all has
+          (subst (λ t. Spelled SpellsRequest t all []) (sym (append-nil input)) spelled) in
+      ended_whole rest left.0 some none left.1
+  broken_whole input whole last all (inr (front, behind, more, is, breaks)) spelled =
+      let (is_more, closing, (rest, hopeless, has)) = breaks in
+      let left = left_whole front behind rest whole all has
+          (subst (λ t. Spelled SpellsRequest t all []) is spelled) in
+      hopeless_whole rest behind left.0 hopeless left.1
+
+  pub complete_run : (told : Option (List ℕ × List ℕ)) (end : End)
+      → IfFewer told most (IsComplete (ghosts G) first now f end) → IsWholeInput told most
+      → (status_number end ≡ 0) ⊎ (status_number end ≡ 6)
+  complete_run None end complete input = absurd input
+  complete_run (Some told) (ends.Over verdicts.Whole) complete input = inl refl
+  complete_run (Some told) (ends.Over verdicts.Broken) complete input =
+      let (whole, last, over, wrote) = complete input.0 in
+      absurd (broken_whole told.1 whole last input.1.0 over input.1.1)
+  complete_run (Some told) ends.NoMemory complete input = inr refl
+  complete_run (Some told) ends.ReadFault complete input = absurd (complete input.0)
+  complete_run (Some told) ends.WriteFault complete input = absurd (complete input.0)
+  complete_run (Some told) ends.Long complete input = absurd (complete input.0)

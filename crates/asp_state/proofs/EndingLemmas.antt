@@ -1,313 +1,281 @@
--- A run from its beginning to its end.
-use Rattle.std.proofs.Common.{◌≡◌, ℕ, ◌+◌, ◌<◌, ◌≤◌, List, [], ◌∷◌, ◌++◌, length, Option, Some, None, refl, sym, ap, ◌∙◌, arith, subst, cond, inl, inr, append_assoc, append-nil, length-append}
-use Rattle.std.specs.Prelude.{◌≢◌}
+-- A run of a responder from its beginning to its end.
+use Rattle.std.proofs.Common.{◌≡◌, ℕ, ◌+◌, ◌<◌, ◌≤◌, Bool, true, false, not, List, [], ◌∷◌, ◌++◌, length, take, Option, Some, None, refl, sym, ap, ◌∙◌, arith, subst, inl, inr, append-nil, length-append}
+use Rattle.std.specs.Prelude.{◌⊎◌, ◌≢◌, All, IsTrue}
+use Rattle.std.proofs.Math.Seq.{take-append-add}
+use Rattle.std.proofs.lemmas.List.Elements.{All-from_recursion}
 use Rattle.asp_base.specs.Moments.{step_moment}
-use Rattle.asp_base.specs.Outside.{Takes, TakesFront, Gives, IsAtEnd}
-use Rattle.asp_base.proofs.OutsideLemmas.{Takes-trans, TakesFront-after, Gives-nil, Gives-trans}
+use Rattle.asp_base.specs.Outside.{Takes, TakesFront}
+use Rattle.asp_messages.specs.declared.request.Ask.TheVariants.{Read}
+use Rattle.asp_messages.specs.declared.request.Message.TheVariants.{Fit}
+use Rattle.asp_messages.specs.declared.request.Request.{Request}
 use Rattle.asp_messages.specs.Fields.{most_cookie}
+use Rattle.asp_messages.specs.Ranges.{RequestFits}
 use Rattle.asp_messages.specs.RequestSpelling.{SpellsRequest}
-use Rattle.asp_messages.specs.Stream.{HasNoMessage, IsHopeless}
-use Rattle.asp_messages.proofs.StreamLemmas.{Spelled-append}
+use Rattle.asp_messages.specs.RequestText.{request_text}
+use Rattle.asp_messages.specs.Stream.{IsHopeless}
+use Rattle.asp_messages.proofs.SentRequestLemmas.{request_spelled}
+use Rattle.keeper.specs.declared.keeping.Keeper as keepers
 use Rattle.lock_laws.proofs.LawLemmas.{LocksHold-of_legal}
+use Rattle.message_framing.specs.Held.{Held, empty_reader}
+use Rattle.percent_encoding.proofs.PercentLemmas.{IsByte}
 use Rattle.session_machine.specs.declared.entry.Entry.{Entry}
 use Rattle.session_machine.specs.declared.item.Item.{Item}
 use Rattle.session_machine.specs.History.{nothing}
 use Rattle.shard_core.specs.Standing.{StandsFor}
-use Rattle.asp_messages.specs.declared.request.Ask.TheVariants.{Read}
-use Rattle.asp_messages.specs.declared.request.Message.TheVariants.{Fit}
-use Rattle.asp_messages.specs.declared.request.Request.{Request}
-use Rattle.asp_messages.specs.Ranges.{RequestFits}
-use Rattle.asp_messages.specs.RequestText.{request_text}
-use Rattle.asp_messages.proofs.SentRequestLemmas.{request_spelled}
-use Rattle.percent_encoding.proofs.PercentLemmas.{IsByte}
-use Rattle.std.proofs.lemmas.List.Elements.{All-from_recursion}
-use Rattle.std.specs.Prelude.{All, IsFalse}
-use Rattle.message_framing.specs.Held.{fed}
 use Rattle.stream_core.specs.Connection.{Connection}
+use Rattle.stream_run.specs.declared.consumer.Consumer.{Ghosts}
+use Rattle.stream_run.specs.declared.ending.End.TheVariants as ends
+use Rattle.stream_run.specs.Ending.{Ended, HasRoom, IsOver}
+use Rattle.stream_run.specs.Flow.{Flow}
 use Rattle.asp_state.specs.declared.pipe.Pipe.{Pipe}
-use Rattle.asp_state.specs.declared.pipe.End.{End}
-use Rattle.asp_state.specs.declared.pipe.End.TheVariants as ends
-use Rattle.asp_state.specs.PlainRun.{output, closing}
-use Rattle.asp_state.specs.Progress.{ServerState, Progress, GoesOn, GoesInPart, GoesShort, Running, EndsBadly}
-use Rattle.asp_state.proofs.ProgressLemmas.{lacks_none}
-use Rattle.asp_state.specs.Run.{PipeFits, IsRun, EndsAs, IsBroken, TellsLocks}
+use Rattle.asp_state.specs.declared.pipe.Verdict.{Verdict}
+use Rattle.asp_state.specs.declared.pipe.Verdict.TheVariants as verdicts
+use Rattle.asp_state.specs.declared.responder.Responder.{Responder}
+use Rattle.asp_state.specs.Giving.{given_body, given_head}
+use Rattle.asp_state.specs.PlainRun.{MayLack, closing, output_of, written_as}
+use Rattle.asp_state.specs.Progress.{Progress}
+use Rattle.asp_state.specs.Responding.{Breaks, Closes, Gave, HasAnswered, Lacks, Waits, Went, owing, state_of, unbegun}
+use Rattle.asp_state.specs.Run.{End, EndsAs, IsRun, PipeFits, Reached, StopsBroken, TellsLocks}
+use Rattle.asp_state.proofs.ResponderLemmas.{due_of, hopeless_none, rest_waits}
 
--- a run that has taken nothing
-pub Running-start : (CanCount : ℕ → Type 0) (pipe : Pipe) (source : Option (List ℕ × List ℕ)) (sink sink' : Option (List ℕ)) (s : ServerState) → PipeFits pipe
-    → s.held ≡ [] → StandsFor nothing 0 [] s.told s.faults → s.cookies ≡ record { next = pipe.first; last = most_cookie } → s.clock ≡ record { next = pipe.start; step = pipe.step }
-    → Takes sink sink' (output pipe.journal [] []) → Running CanCount pipe source source sink sink' s pipe.most
-Running-start CanCount pipe source sink sink' s fits none stands cookies clock begun =
-    let first : pipe.start ≡ step_moment pipe.start pipe.step 0 = let le = fits.start in omega arith in
-    record {
-      bytes = [];
-      due = output pipe.journal [] [];
-      given = Gives-nil source;
-      taken = begun;
-      progress = record {
-        messages = [];
-        list = [];
-        spelled = sym none;
-        plain = refl;
-        due_is = refl;
-        desk = record {
-          stands = stands;
-          counts = tt;
-          next =
-              ap (λ k. k.next) cookies
-              ∙ (let low = fits.some in let high = fits.first in let last = ap (λ k. k.last) cookies in omega (arith, last));
-          some = let high = fits.first in let last = ap (λ k. k.last) cookies in omega (arith, last);
-          drawn = tt;
-          held = λ key. tt;
+-- ---- a beginning
+
+-- what is due at first is the first line of a journal
+begins : (journal is_begun : Bool) → is_begun ≡ not journal
+    → owing is_begun [] ≡ written_as (output_of journal) [] []
+begins false is_begun is = ap (λ b. owing b []) is
+begins true is_begun is = ap (λ b. owing b []) is
+
+pub Went-start : {K : Type 0} (G : keepers.Ghosts K) (r : Responder K) → PipeFits r.pipe
+    → r.is_begun ≡ not r.pipe.journal → r.stream ≡ record { reader = empty_reader; is_due = false }
+    → StandsFor nothing 0 [] (G.told r.desk.keeper) (G.count r.desk.keeper)
+    → r.desk.cookies ≡ record { next = r.pipe.first; last = most_cookie }
+    → r.clock ≡ record { next = r.pipe.start; step = r.pipe.step } → Went G r r [] []
+Went-start G r fits begun stream stands cookies clock =
+    let first : r.pipe.start ≡ step_moment r.pipe.start r.pipe.step 0 =
+        let le = fits.start in omega arith in
+    let high = fits.first in
+    let last = ap (λ k. k.last) cookies in
+    (
+      [],
+      inl (ap (λ (s : Connection). s.reader.is_broken) stream,
+           sym (ap (λ (s : Connection). s.reader.held) stream)),
+      record {
+        pipe = refl;
+        floor = refl;
+        progress = record {
+          messages = [];
+          list = [];
+          spelled = refl;
+          plain = refl;
+          due_is = begins r.pipe.journal r.is_begun begun;
+          desk = record {
+            stands = stands;
+            counts = tt;
+            next = ap (λ k. k.next) cookies ∙ (let low = fits.some in omega (arith, last));
+            some = omega (arith, last);
+            drawn = tt;
+            held = λ key. tt;
+          };
+          last_cookie = last;
+          moment = ap (λ k. k.next) clock ∙ first;
+          step = ap (λ k. k.step) clock;
         };
-        last_cookie = ap (λ k. k.last) cookies;
-        moment = ap (λ k. k.next) clock ∙ first;
-        step = ap (λ k. k.step) clock;
-      };
-      left_is = omega arith;
-    }
-
-Progress-fed : (CanCount : ℕ → Type 0) (pipe : Pipe) (bytes due piece : List ℕ) (s s' : ServerState) → s' ≡ record s { held = s.held ++ piece } → Progress CanCount pipe bytes due s
-    → Progress CanCount pipe (bytes ++ piece) due s'
-Progress-fed CanCount pipe bytes due piece s s' is run = subst (Progress CanCount pipe (bytes ++ piece) due) (sym is) (record {
-  messages = run.messages;
-  list = run.list;
-  spelled = Spelled-append SpellsRequest bytes run.messages s.held piece run.spelled;
-  plain = run.plain;
-  due_is = run.due_is;
-  desk = run.desk;
-  last_cookie = run.last_cookie;
-  moment = run.moment;
-  step = run.step;
-})
-
--- a piece more
-pub Running-fed : (CanCount : ℕ → Type 0) (pipe : Pipe) (source source' source'' : Option (List ℕ × List ℕ)) (sink sink' : Option (List ℕ)) (piece : List ℕ) (s s' : ServerState) (left left' : ℕ)
-    → s' ≡ record s { held = s.held ++ piece }
-    → Running CanCount pipe source source' sink sink' s left → Gives source' source'' piece → left' + length piece ≡ left
-    → Running CanCount pipe source source'' sink sink' s' left'
-Running-fed CanCount pipe source source' source'' sink sink' piece s s' left left' is run gives less = record {
-  bytes = run.bytes ++ piece;
-  due = run.due;
-  given = Gives-trans source source' source'' run.bytes piece run.given gives;
-  taken = run.taken;
-  progress = Progress-fed CanCount pipe run.bytes run.due piece s s' is run.progress;
-  left_is = omega (arith, run.left_is, length-append run.bytes piece);
-}
-
--- and the messages that are whole with it
-pub Running-on : (CanCount : ℕ → Type 0) (pipe : Pipe) (source source' : Option (List ℕ × List ℕ)) (sink sink' sink'' : Option (List ℕ)) (s s' : ServerState) (left : ℕ)
-    → Running CanCount pipe source source' sink sink' s left → GoesOn CanCount pipe.journal sink' sink'' s s'
-    → Running CanCount pipe source source' sink sink'' s' left
-Running-on CanCount pipe source source' sink sink' sink'' s s' left run goes = record {
-  bytes = run.bytes;
-  due = run.due ++ goes.0;
-  given = run.given;
-  taken = Takes-trans sink sink' sink'' run.due goes.0 run.taken goes.1;
-  progress = goes.2.goes pipe run.bytes run.due refl run.progress;
-  left_is = run.left_is;
-}
-
--- the source gave nothing more
-pub Running-same : (CanCount : ℕ → Type 0) (pipe : Pipe) (source source' source'' : Option (List ℕ × List ℕ)) (sink sink' : Option (List ℕ)) (s : ServerState) (left : ℕ)
-    → Running CanCount pipe source source' sink sink' s left → Gives source' source'' [] → Running CanCount pipe source source'' sink sink' s left
-Running-same CanCount pipe source source' source'' sink sink' s left run gives =
-    Running-fed CanCount pipe source source' source'' sink sink' [] s s left left (ap (λ h. record s { held = h }) (sym (append-nil s.held))) run gives (omega arith)
+      },
+    )
 
 -- ---- endings
 
 -- a history that a keeper stands for gives what locks give
-locks_of : (told : Option (List ℕ → Option Item)) (faults : ℕ) (list : List Entry) → StandsFor nothing 0 list told faults → TellsLocks told list
+locks_of : (told : Option (List ℕ → Option Item)) (faults : ℕ) (list : List Entry)
+    → StandsFor nothing 0 list told faults → TellsLocks told list
 locks_of None faults list stands = tt
 locks_of (Some items) faults list stands = LocksHold-of_legal nothing 0 list stands.told_is.0
 
-module _ (CanCount : ℕ → Type 0) (pipe : Pipe) (source source' : Option (List ℕ × List ℕ)) (sink sink' : Option (List ℕ)) (s : ServerState) (left : ℕ)
-    (run : Running CanCount pipe source source' sink sink' s left)
-  where
-    ended : (end : End) (sink'' : Option (List ℕ)) → EndsAs end pipe.journal source' sink sink'' s.held (length run.bytes) pipe.most run.due
-        → IsRun CanCount pipe source source' sink sink'' s.told s.faults end
-    ended end sink'' ends = record {
-      bytes = run.bytes;
-      messages = run.progress.messages;
-      rest = s.held;
-      list = run.progress.list;
-      given = run.given;
-      within = omega (arith, run.left_is);
-      spelled = run.progress.spelled;
-      plain = run.progress.plain;
-      counts = run.progress.desk.counts;
-      stands = run.progress.desk.stands;
-      locks = locks_of s.told s.faults run.progress.list run.progress.desk.stands;
-      ends = subst (EndsAs end pipe.journal source' sink sink'' s.held (length run.bytes) pipe.most) run.progress.due_is ends;
-    }
-
-    pub ended-whole : IsAtEnd source' → s.held ≡ [] → 0 < left → IsRun CanCount pipe source source' sink sink' s.told s.faults ends.Whole
-    ended-whole end none some = ended ends.Whole sink' (end, none, omega (arith, run.left_is), run.taken)
-
-    pub ended-read : HasNoMessage SpellsRequest s.held → 0 < left → IsRun CanCount pipe source source' sink sink' s.told s.faults ends.ReadFault
-    ended-read none some = ended ends.ReadFault sink' (none, omega (arith, run.left_is), run.taken)
-
-    pub ended-no_memory : IsRun CanCount pipe source source' sink sink' s.told s.faults ends.NoMemory
-    ended-no_memory = ended ends.NoMemory sink' (run.due, [], sym (append-nil run.due), lacks_none pipe.journal, run.taken)
-
-    pub ended-long : HasNoMessage SpellsRequest s.held → left ≡ 0 → IsRun CanCount pipe source source' sink sink' s.told s.faults ends.Long
-    ended-long none all = ended ends.Long sink' (none, omega (arith, run.left_is), run.taken)
-
-    pub ended-badly : (end : End) (sink'' : Option (List ℕ)) → IsBroken source' s.held → HasNoMessage SpellsRequest s.held → 0 < left → EndsBadly end pipe.journal sink' sink''
-        → IsRun CanCount pipe source source' sink sink'' s.told s.faults end
-    ended-badly ends.Broken sink'' broken none some bad =
-        ended ends.Broken sink'' (broken, none, omega (arith, run.left_is), Takes-trans sink sink' sink'' run.due (closing pipe.journal) run.taken bad)
-    ended-badly ends.WriteFault sink'' broken none some bad =
-        ended ends.WriteFault sink'' (inr (broken, none, omega (arith, run.left_is), TakesFront-after sink sink' sink'' run.due (closing pipe.journal) run.taken bad))
-    ended-badly ends.Whole sink'' broken none some bad = absurd bad
-    ended-badly ends.ReadFault sink'' broken none some bad = absurd bad
-    ended-badly ends.NoMemory sink'' broken none some bad = absurd bad
-    ended-badly ends.Long sink'' broken none some bad = absurd bad
-
--- the sink failed at a reply
-pub ended-write : (CanCount : ℕ → Type 0) (pipe : Pipe) (source source' : Option (List ℕ × List ℕ)) (sink sink' sink'' : Option (List ℕ)) (s s' : ServerState) (left : ℕ)
-    → Running CanCount pipe source source' sink sink' s left → GoesInPart CanCount pipe.journal sink' sink'' s s'
-    → IsRun CanCount pipe source source' sink sink'' s'.told s'.faults ends.WriteFault
-ended-write CanCount pipe source source' sink sink' sink'' s s' left run part =
-    let progress = part.2.goes pipe run.bytes run.due refl run.progress in
-    record {
-      bytes = run.bytes;
-      messages = progress.messages;
-      rest = s'.held;
-      list = progress.list;
-      given = run.given;
-      within = omega (arith, run.left_is);
-      spelled = progress.spelled;
-      plain = progress.plain;
-      counts = progress.desk.counts;
-      stands = progress.desk.stands;
-      locks = locks_of s'.told s'.faults progress.list progress.desk.stands;
-      ends = inl (subst (TakesFront sink sink'') progress.due_is (TakesFront-after sink sink' sink'' run.due part.0 run.taken part.1));
-    }
-
--- memory was wanting for a message, or for its line
-pub ended-short : (CanCount : ℕ → Type 0) (pipe : Pipe) (source source' : Option (List ℕ × List ℕ)) (sink sink' sink'' : Option (List ℕ)) (s s' : ServerState) (left : ℕ)
-    → Running CanCount pipe source source' sink sink' s left → GoesShort CanCount pipe.journal sink' sink'' s s'
-    → IsRun CanCount pipe source source' sink sink'' s'.told s'.faults ends.NoMemory
-ended-short CanCount pipe source source' sink sink' sink'' s s' left run short =
-    let progress = short.4.goes pipe run.bytes run.due refl run.progress in
-    record {
-      bytes = run.bytes;
-      messages = progress.messages;
-      rest = s'.held;
-      list = progress.list;
-      given = run.given;
-      within = omega (arith, run.left_is);
-      spelled = progress.spelled;
-      plain = progress.plain;
-      counts = progress.desk.counts;
-      stands = progress.desk.stands;
-      locks = locks_of s'.told s'.faults progress.list progress.desk.stands;
-      ends = (run.due ++ short.0, short.1, sym progress.due_is ∙ sym (append_assoc run.due short.0 short.1), short.3, Takes-trans sink sink' sink'' run.due short.0 run.taken short.2);
-    }
-
--- the sink failed at the beginning of a journal
-pub ended-unbegun : (CanCount : ℕ → Type 0) (pipe : Pipe) (source : Option (List ℕ × List ℕ)) (sink sink' : Option (List ℕ)) (s : ServerState) → s.held ≡ []
-    → StandsFor nothing 0 [] s.told s.faults → TakesFront sink sink' (output pipe.journal [] []) → IsRun CanCount pipe source source sink sink' s.told s.faults ends.WriteFault
-ended-unbegun CanCount pipe source sink sink' s none stands front = record {
-  bytes = [];
-  messages = [];
-  rest = s.held;
-  list = [];
-  given = Gives-nil source;
-  within = omega arith;
-  spelled = sym none;
-  plain = refl;
-  counts = tt;
-  stands = stands;
-  locks = locks_of s.told s.faults [] stands;
-  ends = inl front;
-}
-
--- memory was wanting for a piece that was given
-pub ended-unfed : (CanCount : ℕ → Type 0) (pipe : Pipe) (source source' source'' : Option (List ℕ × List ℕ)) (sink sink' : Option (List ℕ)) (piece : List ℕ) (s : ServerState) (left : ℕ)
-    → Running CanCount pipe source source' sink sink' s left → Gives source' source'' piece → length piece ≤ left → IsRun CanCount pipe source source'' sink sink' s.told s.faults ends.NoMemory
-ended-unfed CanCount pipe source source' source'' sink sink' piece s left run gives few = record {
-  bytes = run.bytes ++ piece;
-  messages = run.progress.messages;
-  rest = s.held ++ piece;
-  list = run.progress.list;
-  given = Gives-trans source source' source'' run.bytes piece run.given gives;
-  within = omega (arith, run.left_is, length-append run.bytes piece, few);
-  spelled = Spelled-append SpellsRequest run.bytes run.progress.messages s.held piece run.progress.spelled;
-  plain = run.progress.plain;
-  counts = run.progress.desk.counts;
-  stands = run.progress.desk.stands;
-  locks = locks_of s.told s.faults run.progress.list run.progress.desk.stands;
-  ends = (run.due, [], sym run.progress.due_is ∙ sym (append-nil run.due), lacks_none pipe.journal, run.taken);
-}
-
-pub hopeless-none : (rest : List ℕ) → IsHopeless SpellsRequest rest → HasNoMessage SpellsRequest rest
-hopeless-none rest hopeless front back m is s = hopeless [] front back m (append-nil rest ∙ is) s
-
-hopeless-after : (r : Request) → RequestFits r → All IsByte r.key → (rest : List ℕ) → IsHopeless SpellsRequest rest → rest ≢ []
-hopeless-after r fits bytes rest hopeless none =
-    hopeless (request_text r) (request_text r) [] (Fit r) (ap (λ t. t ++ request_text r) none ∙ sym (append-nil _)) (request_spelled r fits bytes)
-
 -- a rest that is hopeless is not empty: a read of `/` could follow it
-pub hopeless-some : (rest : List ℕ) → IsHopeless SpellsRequest rest → rest ≢ []
-hopeless-some rest hopeless =
-    hopeless-after (record { key = 47 ∷ []; ask = Read }) (record { key = (omega arith, omega arith); ask = tt }) (All-from_recursion IsByte (47 ∷ []) (omega arith, tt)) rest hopeless
+hopeless_after : (r : Request) → RequestFits r → All IsByte r.key → (rest : List ℕ)
+    → IsHopeless SpellsRequest rest → rest ≢ []
+hopeless_after r fits bytes rest hopeless none =
+    hopeless (request_text r) (request_text r) [] (Fit r)
+    (ap (λ t. t ++ request_text r) none ∙ sym (append-nil _)) (request_spelled r fits bytes)
 
--- what a stream holds that was fed a piece
-pub fed_is : (old new : Connection) (piece : List ℕ) → new ≡ record old { reader = fed old.reader piece } → IsFalse old.reader.is_broken → new.reader.held ≡ old.reader.held ++ piece
-fed_is old new piece is whole = ap (λ (s : Connection). s.reader.held) is ∙ ap (λ b. cond b [] (old.reader.held ++ piece)) whole
+pub hopeless_some : (rest : List ℕ) → IsHopeless SpellsRequest rest → rest ≢ []
+hopeless_some rest hopeless =
+    hopeless_after (record { key = 47 ∷ []; ask = Read })
+    (record { key = (omega arith, omega arith); ask = tt })
+    (All-from_recursion IsByte (47 ∷ []) (omega arith, tt)) rest hopeless
 
--- ---- one turn of the loop: a piece was fed, and the messages that are whole with it are answered
+none_long : (last : List ℕ) → last ≡ [] → 0 < length last → ⊥
+none_long last none some = let long = ap length none in omega (arith, long, some)
 
-module _ (CanCount : ℕ → Type 0) (pipe : Pipe) (source source' source'' : Option (List ℕ × List ℕ)) (sink sink' sink'' : Option (List ℕ))
-    (s fed s' : ServerState) (piece : List ℕ) (left left' : ℕ)
-    (run : Running CanCount pipe source source' sink sink' s left)
-    (is : fed ≡ record s { held = s.held ++ piece })
-    (gives : Gives source' source'' piece)
-    (less : left' + length piece ≡ left)
-  where
-    run_fed : Running CanCount pipe source source'' sink sink' fed left'
-    run_fed = Running-fed CanCount pipe source source' source'' sink sink' piece s fed left left' is run gives less
+room_more : (more : Bool) (count most : ℕ) → IsTrue more → HasRoom more count most → count < most
+room_more true count most is room = room
+room_more false count most is room = cc
 
-    pub turn-on : GoesOn CanCount pipe.journal sink' sink'' fed s' → Running CanCount pipe source source'' sink sink'' s' left'
-    turn-on goes = Running-on CanCount pipe source source'' sink sink' sink'' fed s' left' run_fed goes
+-- so many bytes behind a text are a front of both
+front_of : (sink sink' : Option (List ℕ)) (whole last : List ℕ) (n : ℕ) → n ≤ length last
+    → Takes sink sink' (whole ++ take n last) → TakesFront sink sink' (whole ++ last)
+front_of sink sink' whole last n le wrote = (
+  length whole + n,
+  omega (arith, le, length-append whole last),
+  subst (Takes sink sink') (sym (take-append-add whole last n)) wrote,
+)
 
-    pub turn-no_memory : (rest : List ℕ) → GoesShort CanCount pipe.journal sink' sink'' fed (record s' { held = rest }) → IsRun CanCount pipe source source'' sink sink'' s'.told s'.faults ends.NoMemory
-    turn-no_memory rest short = ended-short CanCount pipe source source'' sink sink' sink'' fed (record s' { held = rest }) left' run_fed short
+module _ {K : Type 0} (G : keepers.Ghosts K) where
+  abbrev pub ghosts : Ghosts (Responder K) Verdict
+  ghosts = record {
+    went = Went G;
+    waits = Waits;
+    gave = Gave G;
+    breaks = Breaks G;
+    closes = Closes G;
+    lacks = Lacks G;
+    work = λ now. length now.stream.reader.held + unbegun now.is_begun;
+    head = λ now. given_head now.given now.line.items;
+    body = λ now. given_body now.given;
+  }
 
-    pub turn-write : GoesInPart CanCount pipe.journal sink' sink'' fed s' → IsRun CanCount pipe source source'' sink sink'' s'.told s'.faults ends.WriteFault
-    turn-write part = ended-write CanCount pipe source source'' sink sink' sink'' fed s' left' run_fed part
+  module _ (most : ℕ) (first now : Responder K) (f : Flow) where
+    -- the floor is kept at each ending
+    over_keeps : (verdict : Verdict) (bytes whole last : List ℕ)
+        → IsOver ghosts most first now f.source' bytes verdict whole last
+        → (rest : List ℕ) × (due : List ℕ) × HasAnswered G first now bytes rest due
+    over_keeps verdicts.Whole bytes whole last (inl (closes, end, some)) = ([], whole, closes.1)
+    over_keeps verdicts.Broken bytes whole last (inl (closes, end, some)) =
+        (closes.1.0, whole, closes.1.3)
+    over_keeps verdicts.Whole bytes whole last (inr (more, breaks, room)) = absurd breaks
+    over_keeps verdicts.Broken bytes whole last (inr (more, breaks, room)) =
+        (breaks.2.0, whole, breaks.2.2)
 
-    module _ (rest : List ℕ) (hopeless : IsHopeless SpellsRequest rest) (goes : GoesOn CanCount pipe.journal sink' sink'' fed (record s' { held = rest })) where
-      run_on : Running CanCount pipe source source'' sink sink'' (record s' { held = rest }) left'
-      run_on = Running-on CanCount pipe source source'' sink sink' sink'' fed (record s' { held = rest }) left' run_fed goes
+    part_keeps : (bytes whole last : List ℕ)
+        → ((verdict : Verdict) × IsOver ghosts most first now f.source' bytes verdict whole last)
+          ⊎ Gave G first now bytes whole last
+        → (rest : List ℕ) × (due : List ℕ) × HasAnswered G first now bytes rest due
+    part_keeps bytes whole last (inl (verdict, over)) = over_keeps verdict bytes whole last over
+    part_keeps bytes whole last (inr gave) = (gave.0, whole ++ last, gave.1)
 
-      pub turn-long : left' ≡ 0 → IsRun CanCount pipe source source'' sink sink'' s'.told s'.faults ends.Long
-      turn-long all = ended-long CanCount pipe source source'' sink sink'' (record s' { held = rest }) left' run_on (hopeless-none rest hopeless) all
+    pub floor_of : (end : End) → Ended ghosts most first now f end
+        → G.floor now.desk.keeper ≡ G.floor first.desk.keeper
+    floor_of (ends.Over verdict) run =
+        (over_keeps verdict run.taken run.ends.0 run.ends.1 run.ends.2).2.floor
+    floor_of ends.ReadFault run = run.ends.1.2.floor
+    floor_of ends.WriteFault run = (part_keeps run.taken run.ends.0 run.ends.1 run.ends.3).2.floor
+    floor_of ends.NoMemory run = run.ends.1.3.floor
+    floor_of ends.Long run = run.ends.1.2.floor
 
-      pub turn-badly : (end : End) (last : Option (List ℕ)) → 0 < left' → EndsBadly end pipe.journal sink'' last → IsRun CanCount pipe source source'' sink last s'.told s'.faults end
-      turn-badly end last some bad =
-          ended-badly CanCount pipe source source'' sink sink'' (record s' { held = rest }) left' run_on end last
-          (hopeless-some rest hopeless, inl hopeless) (hopeless-none rest hopeless) some bad
+  module _ (pipe : Pipe) (first now : Responder K) (f : Flow) (is_pipe : first.pipe ≡ pipe) where
+    -- what the run gives
+    abbrev Gives : End → Type 0
+    Gives end = IsRun G.can_count pipe f (G.told now.desk.keeper) (G.count now.desk.keeper) end
 
--- the input ended inside a message
-pub stop-badly : (CanCount : ℕ → Type 0) (pipe : Pipe) (source source' source'' : Option (List ℕ × List ℕ)) (sink sink' last : Option (List ℕ)) (s : ServerState) (left : ℕ) (end : End)
-    → Running CanCount pipe source source' sink sink' s left → Gives source' source'' [] → IsAtEnd source'' → s.held ≢ [] → HasNoMessage SpellsRequest s.held → 0 < left → EndsBadly end pipe.journal sink' last
-    → IsRun CanCount pipe source source'' sink last s.told s.faults end
-stop-badly CanCount pipe source source' source'' sink sink' last s left end run gives ended some none more bad =
-    ended-badly CanCount pipe source source'' sink sink' s left (Running-same CanCount pipe source source' source'' sink sink' s left run gives) end last
-    (some, inr ended) none more bad
+    abbrev reached : List ℕ → ℕ → List ℕ → Reached
+    reached rest count due = record {
+      output = output_of pipe.journal;
+      flow = f;
+      rest = rest;
+      count = count;
+      most = pipe.most;
+      due = due;
+    }
 
--- the input ended, and all was answered
-pub stop-whole : (CanCount : ℕ → Type 0) (pipe : Pipe) (source source' source'' : Option (List ℕ × List ℕ)) (sink sink' : Option (List ℕ)) (s : ServerState) (left : ℕ)
-    → Running CanCount pipe source source' sink sink' s left → Gives source' source'' [] → IsAtEnd source'' → s.held ≡ [] → 0 < left
-    → IsRun CanCount pipe source source'' sink sink' s.told s.faults ends.Whole
-stop-whole CanCount pipe source source' source'' sink sink' s left run gives ended none more =
-    ended-whole CanCount pipe source source'' sink sink' s left (Running-same CanCount pipe source source' source'' sink sink' s left run gives) ended none more
+    by_run : (end : End) (ended : Ended ghosts pipe.most first now f end) (rest due : List ℕ)
+        → HasAnswered G first now ended.taken rest due
+        → EndsAs end (reached rest (length ended.taken) due) → Gives end
+    by_run end ended rest due has how = record {
+      bytes = ended.taken;
+      messages = run.messages;
+      rest = rest;
+      list = run.list;
+      given = ended.given;
+      within = ended.within;
+      spelled = run.spelled;
+      plain = run.plain;
+      counts = run.desk.counts;
+      stands = run.desk.stands;
+      locks = locks_of (G.told now.desk.keeper) (G.count now.desk.keeper) run.list run.desk.stands;
+      ends = subst (λ d. EndsAs end (reached rest (length ended.taken) d)) run.due_is how;
+    }
+      where
+        run : Progress G.can_count pipe ended.taken due (record (state_of G now) { held = rest })
+        run = subst (λ (p : Pipe). Progress G.can_count p ended.taken due
+            (record (state_of G now) { held = rest })) is_pipe has.progress
 
--- the source failed, and gave nothing
-pub stop-read : (CanCount : ℕ → Type 0) (pipe : Pipe) (source source' source'' : Option (List ℕ × List ℕ)) (sink sink' : Option (List ℕ)) (s : ServerState) (left : ℕ)
-    → Running CanCount pipe source source' sink sink' s left → Gives source' source'' [] → HasNoMessage SpellsRequest s.held → 0 < left
-    → IsRun CanCount pipe source source'' sink sink' s.told s.faults ends.ReadFault
-stop-read CanCount pipe source source' source'' sink sink' s left run gives none more =
-    ended-read CanCount pipe source source'' sink sink' s left (Running-same CanCount pipe source source' source'' sink sink' s left run gives) none more
+    closing_is : (last : List ℕ) → last ≡ closing (output_of first.pipe.journal)
+        → last ≡ closing (output_of pipe.journal)
+    closing_is last is = is ∙ ap (λ (p : Pipe). closing (output_of p.journal)) is_pipe
+
+    -- the rest of an input that is broken, with what closes it
+    module _ (end : End) (ended : Ended ghosts pipe.most first now f end) (whole last : List ℕ)
+        (Wrote : List ℕ → Type 0)
+        (how : (rest : List ℕ) → StopsBroken (reached rest (length ended.taken) whole)
+          → Wrote (whole ++ closing (output_of pipe.journal))
+          → EndsAs end (reached rest (length ended.taken) whole))
+      where
+      broken_run : IsOver ghosts pipe.most first now f.source' ended.taken verdicts.Broken whole
+          last
+          → Wrote (whole ++ last) → Gives end
+      broken_run (inl (closes, at_end, some)) wrote =
+          let (is, (rest, more, none, has)) = closes in
+          by_run end ended rest whole has
+          (how rest ((more, inr at_end), none, some)
+          (subst (λ l. Wrote (whole ++ l)) (closing_is last is) wrote))
+      broken_run (inr (more, breaks, room)) wrote =
+          let (is_more, is, (rest, hopeless, has)) = breaks in
+          by_run end ended rest whole has
+          (how rest
+          ((hopeless_some rest hopeless, inl hopeless), hopeless_none rest hopeless,
+           room_more more (length ended.taken) pipe.most is_more room)
+          (subst (λ l. Wrote (whole ++ l)) (closing_is last is) wrote))
+
+    over_run : (verdict : Verdict) (ended : Ended ghosts pipe.most first now f (ends.Over verdict))
+        (whole last : List ℕ)
+        → IsOver ghosts pipe.most first now f.source' ended.taken verdict whole last
+        → Takes f.sink f.sink' (whole ++ last) → Gives (ends.Over verdict)
+    over_run verdicts.Whole ended whole last (inl (closes, at_end, some)) wrote =
+        by_run (ends.Over verdicts.Whole) ended [] whole closes.1
+        (at_end, refl, some,
+         subst (Takes f.sink f.sink') (ap (λ l. whole ++ l) closes.0 ∙ append-nil whole) wrote)
+    over_run verdicts.Whole ended whole last (inr (more, breaks, room)) wrote = absurd breaks
+    over_run verdicts.Broken ended whole last over wrote =
+        broken_run (ends.Over verdicts.Broken) ended whole last (Takes f.sink f.sink')
+        (λ rest stops closed. (stops, closed)) over wrote
+
+    part_run : (ended : Ended ghosts pipe.most first now f ends.WriteFault) (whole last : List ℕ)
+        (n : ℕ)
+        → ((verdict : Verdict)
+            × IsOver ghosts pipe.most first now f.source' ended.taken verdict whole last)
+          ⊎ Gave G first now ended.taken whole last
+        → 0 < length last → n ≤ length last → Takes f.sink f.sink' (whole ++ take n last)
+        → Gives ends.WriteFault
+    part_run ended whole last n (inl (verdicts.Whole, inl (closes, at_end, some))) long le wrote =
+        absurd (none_long last closes.0 long)
+    part_run ended whole last n (inl (verdicts.Whole, inr (more, breaks, room))) long le wrote =
+        absurd breaks
+    part_run ended whole last n (inl (verdicts.Broken, over)) long le wrote =
+        broken_run ends.WriteFault ended whole last (TakesFront f.sink f.sink')
+        (λ rest stops closed. inr (stops, closed)) over
+            (front_of f.sink f.sink' whole last n le wrote)
+    part_run ended whole last n (inr gave) long le wrote =
+        by_run ends.WriteFault ended gave.0 (whole ++ last) gave.1
+        (inl (front_of f.sink f.sink' whole last n le wrote))
+
+    pub run_of : (end : End) → Ended ghosts pipe.most first now f end → Gives end
+    run_of (ends.Over verdict) ended =
+        over_run verdict ended ended.ends.0 ended.ends.1 ended.ends.2 ended.ends.3
+    run_of ends.ReadFault ended =
+        let (due, (rest, is, has), waits, some, wrote) = ended.ends in
+        by_run ends.ReadFault ended rest due
+            (due_of G first now ended.taken rest due waits.is_begun has)
+        (rest_waits now.stream.reader rest is waits.none, some, wrote)
+    run_of ends.WriteFault ended =
+        let (whole, last, n, either, some, le, wrote) = ended.ends in
+        part_run ended whole last n either some le wrote
+    run_of ends.NoMemory ended =
+        let (due, (rest, lacking, may, has), wrote) = ended.ends in
+        by_run ends.NoMemory ended rest (due ++ lacking) has
+        (due, lacking, refl,
+         subst (λ (p : Pipe). MayLack (output_of p.journal) lacking) is_pipe may, wrote)
+    run_of ends.Long ended =
+        let (due, (rest, is, has), waits, all, wrote) = ended.ends in
+        by_run ends.Long ended rest due (due_of G first now ended.taken rest due waits.is_begun has)
+        (rest_waits now.stream.reader rest is waits.none, all, wrote)

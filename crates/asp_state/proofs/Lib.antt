@@ -1,5 +1,5 @@
 pub mod CompleteLemmas
 pub mod EndingLemmas
-pub mod NotingLemmas
 pub mod PlainRunLemmas
 pub mod ProgressLemmas
+pub mod ResponderLemmas

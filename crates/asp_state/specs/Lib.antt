@@ -1,7 +1,8 @@
-pub mod Commands
-pub mod PlainRun
-pub mod Progress
-pub mod Reading
-pub mod Replying
-pub mod Run
 pub mod Words
+pub mod PlainRun
+pub mod Answering
+pub mod Giving
+pub mod Run
+pub mod Progress
+pub mod Responding
+pub mod Commands

@@ -8,17 +8,25 @@ use Rattle.session_id.specs.Hexadecimal.{hex_bytes}
 use Rattle.asp_state.specs.declared.words.Command.{Command}
 use Rattle.asp_state.specs.declared.words.Command.TheVariants as commands
 
--- a run with these three numbers, where each is one and the first cookie is not 0, that writes replies or a journal
+-- a run with these three numbers, where each is one and the first cookie is not 0, that writes
+-- replies or a journal
 abbrev pub pipe_with : Bool → Option ℕ → Option ℕ → Option ℕ → Option Command
 pipe_with journal (Some start) (Some step) (Some first) =
     if nat_lt 0 first
-    then Some (commands.Pipe (record { start = start; step = step; first = first; journal = journal; most = 2 ^ 40 }))
+    then Some (commands.Pipe (record {
+      start = start;
+      step = step;
+      first = first;
+      journal = journal;
+      most = 2 ^ 40;
+    }))
     else None
 pipe_with journal start step first = None
 
 -- a run of these numbers' words
 abbrev pub run_of : Bool → List ℕ → List ℕ → List ℕ → Option Command
-run_of journal start step first = pipe_with journal (number_of start last_moment) (number_of step last_moment) (number_of first most_cookie)
+run_of journal start step first = pipe_with journal
+    (number_of start last_moment) (number_of step last_moment) (number_of first most_cookie)
 
 -- `pipe START STEP FIRST`, and `trace START STEP FIRST`
 unfoldable pub pipe_of : List (List ℕ) → Option Command
@@ -30,13 +38,15 @@ pipe_of words = None
 
 -- a load of so many requests from this seed, where both are numbers
 abbrev pub load_with : Option ℕ → Option ℕ → Option Command
-load_with (Some requests) (Some seed) = Some (commands.Load (record { requests = requests; seed = seed }))
+load_with (Some requests) (Some seed) =
+    Some (commands.Load (record { requests = requests; seed = seed }))
 load_with requests seed = None
 
 -- `load N SEED`
 unfoldable pub load_of : List (List ℕ) → Option Command
 load_of (name ∷ requests ∷ seed ∷ []) =
-    if bytes_eq name (codes "load") then load_with (number_of requests 1000000) (number_of seed 2147483647) else None
+    if bytes_eq name (codes "load")
+    then load_with (number_of requests 1000000) (number_of seed 2147483647) else None
 load_of words = None
 
 -- the identifier of these bytes, where there are any
@@ -46,7 +56,8 @@ id_with None = None
 
 -- `id HEX`
 unfoldable pub id_of : List (List ℕ) → Option Command
-id_of (name ∷ digits ∷ []) = if bytes_eq name (codes "id") then id_with (hex_bytes 15 digits) else None
+id_of (name ∷ digits ∷ []) =
+    if bytes_eq name (codes "id") then id_with (hex_bytes 15 digits) else None
 id_of words = None
 
 -- `replay`, and `drive`

@@ -1,17 +1,12 @@
 //! The program `asp_state`: the out-of-process session state of ASP.NET.
 #![tactic(auto)]
 
-mod answering;
 mod commands;
 mod identifiers;
-mod noting;
 mod pipe;
-mod reading;
-mod running;
-mod runs;
-mod server;
+mod pipe_run;
+mod responder;
 mod words;
-mod writing;
 
 use asp_base::{HostSink, HostSource};
 use commands::command;

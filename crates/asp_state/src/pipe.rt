@@ -1,4 +1,8 @@
 //! What a run of `pipe` is told, and how it ends.
+ghost use Rattle.std.specs.Prelude.{◌≡◌};
+ghost use Rattle.asp_state.specs.PlainRun.{output_of};
+
+use stream_run::Status;
 
 /// What a run of `pipe` is told.
 #[derive(Clone, Copy, Debug, PartialEq, Eq)]
@@ -15,19 +19,49 @@ pub struct Pipe {
     pub most: u64,
 }
 
-/// How a run ends.
+/// What a run writes.
 #[derive(Clone, Copy, Debug, PartialEq, Eq)]
-pub enum End {
-    /// The input was whole messages, and each was answered.
+pub enum Output {
+    /// The reply to each message.
+    Replies,
+    /// The journal of what was done.
+    Journal,
+}
+
+impl Pipe {
+    /// What the run writes.
+    pub fn output(&self) -> Output
+        ensures { result ≡ output_of self.now.journal }
+    {
+        if self.journal {
+            Output::Journal
+        } else {
+            Output::Replies
+        }
+    }
+}
+
+/// What the input of a run was.
+#[derive(Clone, Copy, Debug, PartialEq, Eq, Drop)]
+pub enum Verdict {
+    /// It was whole messages, and each was answered.
     Whole,
-    /// The input was no whole messages.
+    /// It was no whole messages.
     Broken,
-    /// The source failed.
-    ReadFault,
-    /// The sink failed.
-    WriteFault,
-    /// There was no memory.
-    NoMemory,
-    /// The most bytes were taken, and the whole messages among them were answered.
-    Long,
+}
+
+/// How a run ends.
+pub type End = stream_run::End<Verdict>;
+
+impl Status for Verdict {
+    ghost use Rattle.asp_state.specs.Run.{verdict_number};
+
+    ghost number = { verdict_number };
+
+    fn number(&self) -> u8 {
+        match self {
+            Verdict::Whole => 0,
+            Verdict::Broken => 3,
+        }
+    }
 }

@@ -10,7 +10,7 @@ mod loads;
 mod scripts;
 
 use crate::pipe::Pipe;
-use crate::runs::run_pipe;
+use crate::pipe_run::run_pipe;
 use asp_base::{Bytes, MemorySink, MemorySource};
 use asp_messages::spell_reply;
 use keeper::ListKeeper;

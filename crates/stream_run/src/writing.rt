@@ -31,9 +31,9 @@ fn write_apart<T: Sink>(sink: &mut T, head: &[u8], body: &[u8]) -> Result<(), Fa
     write_whole(sink, body)
 }
 
-/// Writes a head and then a body that is not empty, both in one call of the sink where they are
-/// short.
-fn write_both<T: Sink>(sink: &mut T, head: &[u8], body: &[u8]) -> Result<(), Failed>
+/// Writes a head and then a body, both in one call of the sink where they are short; it takes no
+/// memory. After `Failed` a front of them was taken.
+pub fn write_text<T: Sink>(sink: &mut T, head: &[u8], body: &[u8]) -> Result<(), Failed>
     ensures taken { OnOk result (Takes (T.taken sink.old) (T.taken sink.new) (head.now ++ body.now))
         }
     ensures in_part { OnErr result
@@ -74,5 +74,5 @@ pub fn write_given<C: Consumer, T: Sink>(consumer: &C, sink: &mut T) -> Result<(
     if body.is_empty() {
         return write_one(sink, consumer.head());
     }
-    write_both(sink, consumer.head(), body)
+    write_text(sink, consumer.head(), body)
 }

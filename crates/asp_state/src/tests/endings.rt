@@ -1,7 +1,7 @@
 //! How a run ends, and what it has written by then.
 use super::{BAD, DONE, FOUND, PIPE, WRITE_AND_READ, joined, run_text, sink, source};
 use crate::pipe::Pipe;
-use crate::runs::run_pipe;
+use crate::pipe_run::run_pipe;
 use keeper::{FaultyKeeper, ListKeeper};
 use std::test::Fail;
 
@@ -67,7 +67,8 @@ fn a_fault_of_the_keeper_is_answered_and_changes_nothing(rt: HostRuntime) -> Res
     assert_eq!(rt; ran.status, 0);
     assert_eq!(rt;
         output.taken(),
-        b"HTTP/1.1 500 Keeper Fault\r\nContent-Length: 0\r\n\r\nHTTP/1.1 404 Not Found\r\nContent-Length: 0\r\n\r\n".as_slice()
+        b"HTTP/1.1 500 Keeper Fault\r\nContent-Length: 0\r\n\r\nHTTP/1.1 404 Not Found\r\n\
+        Content-Length: 0\r\n\r\n".as_slice()
     );
     Ok(())
 }

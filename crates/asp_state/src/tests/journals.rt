@@ -4,7 +4,7 @@ use super::loads::TEN;
 use super::{PIPE, WRITE_AND_READ, joined, run_text, sink, source};
 use crate::commands::command;
 use crate::pipe::Pipe;
-use crate::runs::run_pipe;
+use crate::pipe_run::run_pipe;
 use asp_base::MemorySink;
 use keeper::{FaultyKeeper, ListKeeper};
 use std::alloc::Global;
@@ -26,10 +26,12 @@ fn requests_have_their_lines(rt: HostRuntime) -> Result<(), Fail> {
         (
             WRITE_AND_READ,
             0,
-            b"0 0 0 0 x2f61 write 0 20 0 x78 : done\n0 1000 0 0 x2f61 read : found 0 20 0 x78\n".as_slice(),
+            b"0 0 0 0 x2f61 write 0 20 0 x78 : done\n\
+            0 1000 0 0 x2f61 read : found 0 20 0 x78\n".as_slice(),
         ),
         (
-            b"POST /a HTTP/1.1\r\n\r\nGET /a HTTP/1.1\r\nExclusive: acquire\r\n\r\nHEAD /b HTTP/1.1\r\n\r\nGET".as_slice(),
+            b"POST /a HTTP/1.1\r\n\r\nGET /a HTTP/1.1\r\nExclusive: acquire\r\n\r\n\
+            HEAD /b HTTP/1.1\r\n\r\nGET".as_slice(),
             3,
             b"0 1000 0 1 x2f61 acquire : missing\n0 2000 0 0 x2f62 reset : missing\n".as_slice(),
         ),
@@ -111,7 +113,8 @@ fn a_traced_load_is_judged_legal(rt: HostRuntime) -> Result<(), Fail> {
 fn a_write_over_a_lock_is_judged_illegal(rt: HostRuntime) -> Result<(), Fail> {
     let alloc = rt.alloc();
     let lines =
-        b"0 0 0 0 x2f61 write 0 20 0 x78 : done\n0 1000 0 1 x2f61 acquire : found 1 20 0 x78\n0 2000 0 0 x2f61 write 0 20 0 x79 : done\n";
+        b"0 0 0 0 x2f61 write 0 20 0 x78 : done\n0 1000 0 1 x2f61 acquire : found 1 20 0 x78\n\
+        0 2000 0 0 x2f61 write 0 20 0 x79 : done\n";
     let (status, verdict) = replay(alloc, joined(alloc, HEAD, lines)?.as_slice())?;
     assert_eq!(rt; status, 8);
     assert_eq!(rt;

@@ -10,7 +10,15 @@ use std::test::Fail;
 
 /// The canonical texts of the requests of `load 10 1`.
 pub const TEN: &[u8] =
-    b"GET %2F2104 HTTP/1.1\r\nHost: state\r\nExclusive: acquire\r\n\r\nGET %2F719 HTTP/1.1\r\nHost: state\r\nExclusive: acquire\r\n\r\nPUT %2F1264 HTTP/1.1\r\nHost: state\r\nTimeout: 20\r\nContent-Length: 1\r\n\r\n3PUT %2F2189 HTTP/1.1\r\nHost: state\r\nTimeout: 20\r\nContent-Length: 1\r\n\r\n4PUT %2F3881 HTTP/1.1\r\nHost: state\r\nTimeout: 20\r\nContent-Length: 1\r\n\r\n5PUT %2F703 HTTP/1.1\r\nHost: state\r\nTimeout: 20\r\nContent-Length: 1\r\n\r\n6GET %2F2876 HTTP/1.1\r\nHost: state\r\n\r\nPUT %2F927 HTTP/1.1\r\nHost: state\r\nTimeout: 20\r\nContent-Length: 1\r\n\r\n8GET %2F2026 HTTP/1.1\r\nHost: state\r\nExclusive: release\r\nLockCookie: 0\r\n\r\nGET %2F510 HTTP/1.1\r\nHost: state\r\nExclusive: acquire\r\n\r\n";
+    b"GET %2F2104 HTTP/1.1\r\nHost: state\r\nExclusive: acquire\r\n\r\nGET %2F719 HTTP/1.1\r\n\
+    Host: state\r\nExclusive: acquire\r\n\r\nPUT %2F1264 HTTP/1.1\r\nHost: state\r\nTimeout: 20\r\n\
+    Content-Length: 1\r\n\r\n3PUT %2F2189 HTTP/1.1\r\nHost: state\r\nTimeout: 20\r\n\
+    Content-Length: 1\r\n\r\n4PUT %2F3881 HTTP/1.1\r\nHost: state\r\nTimeout: 20\r\n\
+    Content-Length: 1\r\n\r\n5PUT %2F703 HTTP/1.1\r\nHost: state\r\nTimeout: 20\r\n\
+    Content-Length: 1\r\n\r\n6GET %2F2876 HTTP/1.1\r\nHost: state\r\n\r\nPUT %2F927 HTTP/1.1\r\n\
+    Host: state\r\nTimeout: 20\r\nContent-Length: 1\r\n\r\n8GET %2F2026 HTTP/1.1\r\nHost: state\r\n\
+    Exclusive: release\r\nLockCookie: 0\r\n\r\nGET %2F510 HTTP/1.1\r\nHost: state\r\n\
+    Exclusive: acquire\r\n\r\n";
 
 const TEN_COUNTED: &[u8] =
     b"requests 10\n200 5\n400 0\n404 5\n423 0\n500 0\n503 0\n507 0\nremoved 5\n";
