@@ -1,4 +1,5 @@
 pub mod Commands
+pub mod Path
 pub mod PlainRun
 pub mod Progress
 pub mod Reading

@@ -31,7 +31,8 @@ use std::alloc::Global;
 /// first and without memory, and nothing is read or written then. The other statuses of `pipe` and
 /// `trace` are those of `run_pipe`, those of `load`, `replay` and `drive` those of `run_load`,
 /// `run_replay` and `run_drive`. `id` reads nothing and takes no
-/// memory; its status is 5 where the sink failed, else 0.
+/// memory; its status is 5 where the sink failed, else 0. A word PATH names the file that the keeper
+/// stands on, which is the caller's to open.
 pub fn command<S: Source, T: Sink, K: Keeper>(
     alloc: Global,
     words: &[String],
