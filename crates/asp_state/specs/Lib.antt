@@ -1,3 +1,4 @@
+pub mod Path
 pub mod Words
 pub mod PlainRun
 pub mod Answering

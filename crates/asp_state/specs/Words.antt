@@ -74,6 +74,20 @@ abbrev pub ◌or◌ : Option Command → Option Command → Option Command
 None or second = second
 Some command or second = Some command
 
+-- this command, where the word PATH is not empty
+abbrev pub stored_at : List ℕ → Option Command → Option Command
+stored_at [] command = None
+stored_at (byte ∷ path) command = command
+
+-- `drive PATH`, `pipe START STEP FIRST PATH` and `trace START STEP FIRST PATH`
+unfoldable pub stored_of : List (List ℕ) → Option Command
+stored_of (name ∷ path ∷ []) =
+    if bytes_eq name (codes "drive") then stored_at path (Some commands.Drive) else None
+stored_of (name ∷ start ∷ step ∷ first ∷ path ∷ []) =
+    stored_at path (pipe_of (name ∷ start ∷ step ∷ first ∷ []))
+stored_of words = None
+
 -- what the words of a command line say
 unfoldable pub command_of : List (List ℕ) → Option Command
-command_of words = pipe_of words or load_of words or id_of words or single_of words
+command_of words =
+    pipe_of words or load_of words or id_of words or single_of words or stored_of words

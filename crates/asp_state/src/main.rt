@@ -3,16 +3,20 @@
 
 mod commands;
 mod identifiers;
+mod path;
 mod pipe;
 mod pipe_run;
 mod responder;
+mod storing;
 mod words;
 
 use asp_base::{HostSink, HostSource};
 use commands::command;
-use keeper::ListKeeper;
+use keeper::MapKeeper;
+use path::path_of;
 use std::process::ExitCode;
 use std::{env, io};
+use storing::run_stored;
 
 /// The status where the words are none of the table of commands.
 const NO_COMMAND: u8 = 2;
@@ -45,14 +49,14 @@ fn main(rt: HostRuntime) -> ExitCode {
     };
     let mut source = HostSource::new(rt.stdin());
     let mut sink = HostSink::new(rt.stdout());
-    let ran = command(
-        alloc,
-        &words,
-        &mut source,
-        &mut sink,
-        ListKeeper::new(alloc),
-    );
-    ExitCode::from(ran.status)
+    let status = match path_of(&words) {
+        Some(path) => run_stored(&rt, path, &words, &mut source, &mut sink),
+        None => {
+            let keeper = MapKeeper::new(alloc);
+            command(alloc, &words, &mut source, &mut sink, keeper).status
+        }
+    };
+    ExitCode::from(status)
 }
 
 #[cfg(test)]

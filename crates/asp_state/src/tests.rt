@@ -8,6 +8,7 @@ mod heads;
 mod journals;
 mod loads;
 mod scripts;
+mod stored;
 
 use crate::pipe::Pipe;
 use crate::pipe_run::run_pipe;

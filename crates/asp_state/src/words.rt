@@ -1,10 +1,11 @@
 //! The words of a command.
-ghost use Rattle.std.specs.Prelude.{◌≡◌, map, string_bytes, IfSome};
+ghost use Rattle.std.specs.Prelude.{◌≡◌, ◌∷◌, [], map, string_bytes, IfSome};
 ghost use Rattle.load_generator.specs.Running.{LoadFits};
 ghost use Rattle.asp_state.specs.Commands.{IfLoad, IfPipe};
 ghost use Rattle.asp_state.specs.Run.{PipeFits};
 ghost use Rattle.asp_state.specs.Words.{command_of, id_of, load_of, pipe_of, run_of, single_of};
 
+use crate::path::stored_of;
 use crate::pipe::Pipe;
 use asp_base::{LAST_MOMENT, read_number};
 use asp_messages::MOST_COOKIE;
@@ -58,6 +59,22 @@ fn run_of(journal: bool, start: &str, step: &str, first: &str) -> Option<Command
 
 /// The numbers of `pipe START STEP FIRST` or `trace START STEP FIRST`, where each is in its range.
 #[tactic(auto, unfolding(crate::specs::Words::pipe_of))]
+pub fn pipe_named(name: &str, start: &str, step: &str, first: &str) -> Option<Command>
+    ensures fits { IfSome result (λ command. IfPipe command PipeFits) }
+    ensures load { IfSome result (λ command. IfLoad command (λ load. ⊥)) }
+    ensures value { result ≡ pipe_of (name.now ∷ start.now ∷ step.now ∷ first.now ∷ []) }
+{
+    if name == "pipe" {
+        return run_of(false, start, step, first);
+    }
+    if name == "trace" {
+        return run_of(true, start, step, first);
+    }
+    None
+}
+
+/// The run of four words, where they are one.
+#[tactic(auto, unfolding(crate::specs::Words::pipe_of))]
 fn pipe_of(words: &[String]) -> Option<Command>
     ensures fits { IfSome result (λ command. IfPipe command PipeFits) }
     ensures load { IfSome result (λ command. IfLoad command (λ load. ⊥)) }
@@ -66,13 +83,7 @@ fn pipe_of(words: &[String]) -> Option<Command>
     let [name, start, step, first] = words else {
         return None;
     };
-    if name.as_str() == "pipe" {
-        return run_of(false, start, step, first);
-    }
-    if name.as_str() == "trace" {
-        return run_of(true, start, step, first);
-    }
-    None
+    pipe_named(name, start, step, first)
 }
 
 /// The numbers of `load N SEED`, where each is in its range.
@@ -145,5 +156,8 @@ pub fn command_of(words: &[String]) -> Option<Command>
     if let Some(command) = id_of(words) {
         return Some(command);
     }
-    single_of(words)
+    if let Some(command) = single_of(words) {
+        return Some(command);
+    }
+    stored_of(words)
 }

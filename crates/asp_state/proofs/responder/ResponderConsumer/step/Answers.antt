@@ -53,7 +53,7 @@ returns-in-More-clause-waits g c = λ is.
           (c.in-More.ensures.none_whole refl);
       whole = λ more. ap (λ (h : Held). h.is_broken) same
           ∙ not_true c.args.self.now.stream.reader.is_broken
-            (λ wrong. let ends = c.next.ensures.stays wrong in let is = c.in-More.is in cc);
+          (λ wrong. let ends = c.next.ensures.stays wrong in let is = c.in-More.is in cc);
     }
 
 pub returns-else-not-more-clause-over : goal.returns-else-not-more-clause-over

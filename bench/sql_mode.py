@@ -1,0 +1,214 @@
+#!/usr/bin/env python3
+"""Tries `asp_state pipe` over database files, beside Debian's sqlite3 and where the file or the disk refuses.
+
+usage: bench/sql_mode.py [PROGRAM]
+
+PROGRAM is ./asp_state where none is given. It prints one line a case, and ends with 1 where one failed. The cases of a file
+that may not be written and of a full disk want root, and a full disk also the right to mount a file system. Outside the gate.
+"""
+import os
+import shutil
+import signal
+import sqlite3
+import subprocess
+import sys
+import tempfile
+
+TOP = os.path.dirname(os.path.dirname(os.path.abspath(__file__)))
+PROGRAM = os.path.abspath(sys.argv[1]) if len(sys.argv) > 1 else os.path.join(TOP, "asp_state")
+WORDS = ["pipe", "0", "1000", "1"]
+DONE = b"HTTP/1.1 200 OK\r\nContent-Length: 0\r\n\r\n"
+NOBODY = 65534
+
+
+def put(key, body):
+    return b"PUT /%s HTTP/1.1\r\nContent-Length: %d\r\n\r\n%s" % (key, len(body), body)
+
+
+def get(key):
+    return b"GET /%s HTTP/1.1\r\n\r\n" % key
+
+
+def found(body):
+    return b"HTTP/1.1 200 OK\r\nTimeout: 20\r\nContent-Length: %d\r\n\r\n%s" % (len(body), body)
+
+
+def run(path, text, **more):
+    """The status and the bytes written."""
+    ran = subprocess.run([PROGRAM, *WORDS, path], input=text, stdout=subprocess.PIPE, **more)
+    return ran.returncode, ran.stdout
+
+
+def statement(path, text):
+    """What Debian's sqlite3 prints."""
+    ran = subprocess.run(["sqlite3", path, text], stdout=subprocess.PIPE, stderr=subprocess.STDOUT)
+    return ran.stdout.decode().strip()
+
+
+def contents(path):
+    with open(path, "rb") as file:
+        return file.read()
+
+
+def items_survive(folder):
+    """A run reads what the run before it wrote."""
+    path = os.path.join(folder, "survives.db")
+    first = run(path, put(b"a", b"x"))
+    second = run(path, get(b"a"))
+    return first == (0, DONE) and second == (0, found(b"x"))
+
+
+def sqlite3_reads_and_writes(folder):
+    """Debian's sqlite3 reads a row that was written, and writes one that the next run reads."""
+    path = os.path.join(folder, "shared.db")
+    wrote = run(path, put(b"a", b"x"))
+    columns = "hex(key), hex(body), minutes, fresh, cookie, since, touched, expiry"
+    row = statement(path, "SELECT %s FROM items" % columns)
+    said = statement(path, "INSERT INTO items VALUES (x'2f62', x'79', 20, 0, 0, 0, 0, 1200000)")
+    read = run(path, get(b"b"))
+    checked = statement(path, "PRAGMA integrity_check")
+    return wrote == (0, DONE) and row == "2F61|78|20|0|0|0|0|1200000" and said == "" and read == (0, found(b"y")) and checked == "ok"
+
+
+def killed_run_keeps_its_replies(folder):
+    """A run is killed amid 10,000 writes: each write whose reply was read is there afterwards."""
+    path = os.path.join(folder, "killed.db")
+    child = subprocess.Popen([PROGRAM, *WORDS, path], stdin=subprocess.PIPE, stdout=subprocess.PIPE)
+    feeder = os.fork()
+    if feeder == 0:
+        try:
+            for k in range(10_000):
+                os.write(child.stdin.fileno(), put(b"k%d" % k, b"v%d" % k))
+        except OSError:
+            pass
+        os._exit(0)
+    child.stdin.close()
+    replies = b""
+    while len(replies) < 4000 * len(DONE):
+        replies += os.read(child.stdout.fileno(), len(DONE))
+    child.send_signal(signal.SIGKILL)
+    replies += child.stdout.read()
+    child.wait()
+    os.waitpid(feeder, 0)
+    answered = len(replies) // len(DONE)
+    status, text = run(path, b"".join(get(b"k%d" % k) for k in range(answered)))
+    kept = int(statement(path, "SELECT count(*) FROM items"))
+    print("  %d replies were read, %d rows are there" % (answered, kept))
+    return status == 0 and 4000 <= answered <= kept < 10_000 and text == b"".join(found(b"v%d" % k) for k in range(answered))
+
+
+def held_file_is_refused(folder):
+    """A file that a run has open is refused to a second run and to sqlite3, and the first goes on."""
+    path = os.path.join(folder, "held.db")
+    child = subprocess.Popen([PROGRAM, *WORDS, path], stdin=subprocess.PIPE, stdout=subprocess.PIPE)
+    child.stdin.write(put(b"a", b"x"))
+    child.stdin.flush()
+    first = child.stdout.read(len(DONE))
+    second = run(path, get(b"a"))
+    said = statement(path, "SELECT count(*) FROM items")
+    child.stdin.write(get(b"a"))
+    child.stdin.close()
+    last = child.stdout.read()
+    print("  sqlite3 said: %s" % said)
+    return first == DONE and second == (10, b"") and "locked" in said and last == found(b"x") and child.wait() == 0
+
+
+def file_held_by_sqlite_is_refused(folder):
+    """A file that another program is writing is refused, and keeps its rows."""
+    path = os.path.join(folder, "theirs.db")
+    run(path, put(b"a", b"x"))
+    other = sqlite3.connect(path, isolation_level=None)
+    other.execute("BEGIN IMMEDIATE")
+    refused = run(path, get(b"a"))
+    other.execute("ROLLBACK")
+    other.close()
+    return refused == (10, b"") and run(path, get(b"a")) == (0, found(b"x"))
+
+
+def folder_is_refused(folder):
+    path = os.path.join(folder, "folder.db")
+    os.mkdir(path)
+    return run(path, put(b"a", b"x")) == (10, b"") and os.listdir(path) == []
+
+
+def garbage_is_refused(folder):
+    path = os.path.join(folder, "garbage.db")
+    garbage = bytes((k * 167 + 13) % 256 for k in range(20_000))
+    with open(path, "wb") as file:
+        file.write(garbage)
+    return run(path, put(b"a", b"x")) == (10, b"") and contents(path) == garbage
+
+
+def other_table_is_refused(folder):
+    path = os.path.join(folder, "other.db")
+    statement(path, "CREATE TABLE items (name TEXT); INSERT INTO items VALUES ('kept')")
+    refused = run(path, put(b"a", b"x"))
+    return refused == (10, b"") and statement(path, "SELECT name FROM items") == "kept"
+
+
+def file_that_may_not_be_written_is_refused(folder):
+    if os.geteuid() != 0:
+        return None
+    path = os.path.join(folder, "guarded", "read-only.db")
+    os.mkdir(os.path.dirname(path))
+    run(path, put(b"a", b"x"))
+    os.chmod(path, 0o444)
+    before = contents(path)
+    refused = run(path, put(b"a", b"y"), user=NOBODY)
+    same = contents(path) == before
+    return refused == (10, b"") and same and run(path, get(b"a")) == (0, found(b"x"))
+
+
+def full_disk_loses_no_reply(folder):
+    """On a file system of 512 KiB, each write that was answered with success is there afterwards."""
+    small = os.path.join(folder, "small")
+    os.mkdir(small)
+    options = ["-t", "tmpfs", "-o", "size=512k", "tmpfs", small]
+    if os.geteuid() != 0 or subprocess.run(["mount", *options], stderr=subprocess.DEVNULL).returncode != 0:
+        return None
+    try:
+        path = os.path.join(small, "full.db")
+        bodies = [b"%d" % k * 1000 for k in range(200)]
+        status, text = run(path, b"".join(put(b"k%d" % k, bodies[k]) for k in range(200)))
+        done = [k for k, reply in enumerate(text.split(b"HTTP/1.1 ")[1:]) if reply.startswith(b"200")]
+        moved = os.path.join(folder, "moved.db")
+        for end in ["", "-wal"]:
+            if os.path.exists(path + end):
+                shutil.copy(path + end, moved + end)
+    finally:
+        subprocess.run(["umount", small])
+    again, read = run(moved, b"".join(get(b"k%d" % k) for k in done))
+    print("  status %d, %d of 200 writes done; then status %d" % (status, len(done), again))
+    return status == 0 and 0 < len(done) < 200 and again == 0 and read == b"".join(found(bodies[k]) for k in done)
+
+
+CASES = [
+    items_survive,
+    sqlite3_reads_and_writes,
+    killed_run_keeps_its_replies,
+    held_file_is_refused,
+    file_held_by_sqlite_is_refused,
+    folder_is_refused,
+    garbage_is_refused,
+    other_table_is_refused,
+    file_that_may_not_be_written_is_refused,
+    full_disk_loses_no_reply,
+]
+
+
+def main():
+    global PROGRAM
+    failed = 0
+    with tempfile.TemporaryDirectory() as folder:
+        os.chmod(folder, 0o777)
+        if len(sys.argv) > 1:
+            # Another user may not reach the folder that the program is in.
+            PROGRAM = shutil.copy(PROGRAM, os.path.join(folder, "program"))
+        for case in CASES:
+            holds = case(folder)
+            failed += holds is False
+            print("%s: %s" % (case.__name__, {True: "ok", False: "FAILED", None: "not tried"}[holds]))
+    sys.exit(1 if failed else 0)
+
+
+main()

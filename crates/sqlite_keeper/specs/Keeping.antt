@@ -1,0 +1,27 @@
+-- A keeper over a connection, as contracts see it, and how it counts.
+use Rattle.std.specs.Prelude.{ℕ, ◌-◌, ◌^◌, min, refl, Result, Ok, Err}
+use Rattle.std.specs.Coded.{Coded, code_by, coded×, coded_ℕ}
+use Rattle.asp_base.specs.InMemory.{one_more}
+use Rattle.keeper.specs.declared.errors.KeepError.{KeepError}
+use Rattle.keeper.specs.declared.errors.KeepError.TheVariants.{Fault, NoMemory}
+
+-- A keeper over a connection, and how often it failed.
+pub record OverDatabase (C : Type 0) : Type 0 where
+  pub connection : C
+  pub faults : ℕ
+
+-- how such a keeper is stored
+abbrev pub over_database_code : {C : Type 0} → Coded C → Coded (OverDatabase C)
+over_database_code {C} connection =
+    code_by (C × ℕ) (coded× connection coded_ℕ) (λ k. (k.connection, k.faults))
+    (λ p. record { connection = p.0; faults = p.1 }) (λ _. refl)
+
+-- the count of its failures, up to the last value of a `u64`
+abbrev pub failures : ℕ → ℕ
+failures faults = min faults (2 ^ 64 - 1)
+
+-- the count after an answer: a fault counts one, and nothing else does
+abbrev pub count_after : {T : Type 0} → ℕ → Result T KeepError → ℕ
+count_after faults (Ok value) = faults
+count_after faults (Err NoMemory) = faults
+count_after faults (Err Fault) = one_more faults
