@@ -28,16 +28,16 @@ rest_whole bytes rest more [] all is whole =
     (all, subst (λ t. Spelled SpellsRequest (t ++ more) all []) is whole)
 rest_whole bytes rest more (m ∷ ms) [] (front, back, is, one, others) whole =
     let empty =
-        nothing_front front (back ++ more) (sym (append_assoc front back more)
-            ∙ ap (λ t. t ++ more) (sym is) ∙ whole) in
+    nothing_front front (back ++ more) (sym (append_assoc front back more)
+    ∙ ap (λ t. t ++ more) (sym is) ∙ whole) in
     absurd (omega (arith, spelling_some front m one, ap length empty))
 rest_whole bytes rest more (m ∷ ms) (n ∷ ns) (front, back, is, one, others)
     (front', back', is', other, behind) =
     let same =
-        SpellsRequest-unique (bytes ++ more) front (back ++ more) front' back' m n
-            (ap (λ t. t ++ more) is ∙ append_assoc front back more) one is' other in
+    SpellsRequest-unique (bytes ++ more) front (back ++ more) front' back' m n
+    (ap (λ t. t ++ more) is ∙ append_assoc front back more) one is' other in
     rest_whole back rest more ms ns others
-        (subst (λ t. Spelled SpellsRequest t ns []) (sym same.1) behind)
+    (subst (λ t. Spelled SpellsRequest t ns []) (sym same.1) behind)
 
 -- a rest with no message in front is no whole messages
 ended_whole : (rest : List ℕ) (left : List Message) → rest ≢ [] → HasNoMessage SpellsRequest rest
@@ -66,17 +66,17 @@ module _ {K : Type 0} (G : keepers.Ghosts K) (most : ℕ) (first now : Responder
 
   broken_whole : (input whole last : List ℕ) (all : List Message)
       → Closes G verdicts.Broken first now input whole last
-        ⊎ ((front : List ℕ) × (behind : List ℕ) × (more : Bool) × (input ≡ front ++ behind)
-          × Breaks G more verdicts.Broken first now front whole last)
+      ⊎ ((front : List ℕ) × (behind : List ℕ) × (more : Bool) × (input ≡ front ++ behind)
+      × Breaks G more verdicts.Broken first now front whole last)
       → Spelled SpellsRequest input all [] → ⊥
   broken_whole input whole last all (inl (closing, (rest, some, none, has))) spelled =
       let left = left_whole input [] rest whole all has
-          (subst (λ t. Spelled SpellsRequest t all []) (sym (append-nil input)) spelled) in
+      (subst (λ t. Spelled SpellsRequest t all []) (sym (append-nil input)) spelled) in
       ended_whole rest left.0 some none left.1
   broken_whole input whole last all (inr (front, behind, more, is, breaks)) spelled =
       let (is_more, closing, (rest, hopeless, has)) = breaks in
       let left = left_whole front behind rest whole all has
-          (subst (λ t. Spelled SpellsRequest t all []) is spelled) in
+      (subst (λ t. Spelled SpellsRequest t all []) is spelled) in
       hopeless_whole rest behind left.0 hopeless left.1
 
   pub complete_run : (told : Option (List ℕ × List ℕ)) (end : End)

@@ -53,13 +53,14 @@ pub Went-start : {K : Type 0} (G : keepers.Ghosts K) (r : Responder K) → PipeF
     → r.clock ≡ record { next = r.pipe.start; step = r.pipe.step } → Went G r r [] []
 Went-start G r fits begun stream stands cookies clock =
     let first : r.pipe.start ≡ step_moment r.pipe.start r.pipe.step 0 =
-        let le = fits.start in omega arith in
+    let le = fits.start in omega arith in
     let high = fits.first in
-    let last = ap (λ k. k.last) cookies in
-    (
+    let last = ap (λ k. k.last) cookies in (
       [],
-      inl (ap (λ (s : Connection). s.reader.is_broken) stream,
-           sym (ap (λ (s : Connection). s.reader.held) stream)),
+      inl (
+        ap (λ (s : Connection). s.reader.is_broken) stream,
+        sym (ap (λ (s : Connection). s.reader.held) stream),
+      ),
       record {
         pipe = refl;
         floor = refl;
@@ -149,7 +150,7 @@ module _ {K : Type 0} (G : keepers.Ghosts K) where
 
     part_keeps : (bytes whole last : List ℕ)
         → ((verdict : Verdict) × IsOver ghosts most first now f.source' bytes verdict whole last)
-          ⊎ Gave G first now bytes whole last
+        ⊎ Gave G first now bytes whole last
         → (rest : List ℕ) × (due : List ℕ) × HasAnswered G first now bytes rest due
     part_keeps bytes whole last (inl (verdict, over)) = over_keeps verdict bytes whole last over
     part_keeps bytes whole last (inr gave) = (gave.0, whole ++ last, gave.1)
@@ -208,33 +209,38 @@ module _ {K : Type 0} (G : keepers.Ghosts K) where
     module _ (end : End) (ended : Ended ghosts pipe.most first now f end) (whole last : List ℕ)
         (Wrote : List ℕ → Type 0)
         (how : (rest : List ℕ) → StopsBroken (reached rest (length ended.taken) whole)
-          → Wrote (whole ++ closing (output_of pipe.journal))
-          → EndsAs end (reached rest (length ended.taken) whole))
+        → Wrote (whole ++ closing (output_of pipe.journal))
+        → EndsAs end (reached rest (length ended.taken) whole))
       where
-      broken_run : IsOver ghosts pipe.most first now f.source' ended.taken verdicts.Broken whole
-          last
-          → Wrote (whole ++ last) → Gives end
-      broken_run (inl (closes, at_end, some)) wrote =
-          let (is, (rest, more, none, has)) = closes in
-          by_run end ended rest whole has
-          (how rest ((more, inr at_end), none, some)
-          (subst (λ l. Wrote (whole ++ l)) (closing_is last is) wrote))
-      broken_run (inr (more, breaks, room)) wrote =
-          let (is_more, is, (rest, hopeless, has)) = breaks in
-          by_run end ended rest whole has
-          (how rest
-          ((hopeless_some rest hopeless, inl hopeless), hopeless_none rest hopeless,
-           room_more more (length ended.taken) pipe.most is_more room)
-          (subst (λ l. Wrote (whole ++ l)) (closing_is last is) wrote))
+        broken_run : IsOver ghosts pipe.most first now f.source' ended.taken verdicts.Broken whole
+            last
+            → Wrote (whole ++ last) → Gives end
+        broken_run (inl (closes, at_end, some)) wrote =
+            let (is, (rest, more, none, has)) = closes in
+            by_run end ended rest whole has
+            (how rest ((more, inr at_end), none, some)
+            (subst (λ l. Wrote (whole ++ l)) (closing_is last is) wrote))
+        broken_run (inr (more, breaks, room)) wrote =
+            let (is_more, is, (rest, hopeless, has)) = breaks in
+            by_run end ended rest whole has
+            (how rest (
+              (hopeless_some rest hopeless, inl hopeless),
+              hopeless_none rest hopeless,
+              room_more more (length ended.taken) pipe.most is_more room,
+            )
+            (subst (λ l. Wrote (whole ++ l)) (closing_is last is) wrote))
 
     over_run : (verdict : Verdict) (ended : Ended ghosts pipe.most first now f (ends.Over verdict))
         (whole last : List ℕ)
         → IsOver ghosts pipe.most first now f.source' ended.taken verdict whole last
         → Takes f.sink f.sink' (whole ++ last) → Gives (ends.Over verdict)
     over_run verdicts.Whole ended whole last (inl (closes, at_end, some)) wrote =
-        by_run (ends.Over verdicts.Whole) ended [] whole closes.1
-        (at_end, refl, some,
-         subst (Takes f.sink f.sink') (ap (λ l. whole ++ l) closes.0 ∙ append-nil whole) wrote)
+        by_run (ends.Over verdicts.Whole) ended [] whole closes.1 (
+          at_end,
+          refl,
+          some,
+          subst (Takes f.sink f.sink') (ap (λ l. whole ++ l) closes.0 ∙ append-nil whole) wrote,
+        )
     over_run verdicts.Whole ended whole last (inr (more, breaks, room)) wrote = absurd breaks
     over_run verdicts.Broken ended whole last over wrote =
         broken_run (ends.Over verdicts.Broken) ended whole last (Takes f.sink f.sink')
@@ -243,8 +249,8 @@ module _ {K : Type 0} (G : keepers.Ghosts K) where
     part_run : (ended : Ended ghosts pipe.most first now f ends.WriteFault) (whole last : List ℕ)
         (n : ℕ)
         → ((verdict : Verdict)
-            × IsOver ghosts pipe.most first now f.source' ended.taken verdict whole last)
-          ⊎ Gave G first now ended.taken whole last
+        × IsOver ghosts pipe.most first now f.source' ended.taken verdict whole last)
+        ⊎ Gave G first now ended.taken whole last
         → 0 < length last → n ≤ length last → Takes f.sink f.sink' (whole ++ take n last)
         → Gives ends.WriteFault
     part_run ended whole last n (inl (verdicts.Whole, inl (closes, at_end, some))) long le wrote =
@@ -254,7 +260,7 @@ module _ {K : Type 0} (G : keepers.Ghosts K) where
     part_run ended whole last n (inl (verdicts.Broken, over)) long le wrote =
         broken_run ends.WriteFault ended whole last (TakesFront f.sink f.sink')
         (λ rest stops closed. inr (stops, closed)) over
-            (front_of f.sink f.sink' whole last n le wrote)
+        (front_of f.sink f.sink' whole last n le wrote)
     part_run ended whole last n (inr gave) long le wrote =
         by_run ends.WriteFault ended gave.0 (whole ++ last) gave.1
         (inl (front_of f.sink f.sink' whole last n le wrote))
@@ -265,16 +271,20 @@ module _ {K : Type 0} (G : keepers.Ghosts K) where
     run_of ends.ReadFault ended =
         let (due, (rest, is, has), waits, some, wrote) = ended.ends in
         by_run ends.ReadFault ended rest due
-            (due_of G first now ended.taken rest due waits.is_begun has)
+        (due_of G first now ended.taken rest due waits.is_begun has)
         (rest_waits now.stream.reader rest is waits.none, some, wrote)
     run_of ends.WriteFault ended =
         let (whole, last, n, either, some, le, wrote) = ended.ends in
         part_run ended whole last n either some le wrote
     run_of ends.NoMemory ended =
         let (due, (rest, lacking, may, has), wrote) = ended.ends in
-        by_run ends.NoMemory ended rest (due ++ lacking) has
-        (due, lacking, refl,
-         subst (λ (p : Pipe). MayLack (output_of p.journal) lacking) is_pipe may, wrote)
+        by_run ends.NoMemory ended rest (due ++ lacking) has (
+          due,
+          lacking,
+          refl,
+          subst (λ (p : Pipe). MayLack (output_of p.journal) lacking) is_pipe may,
+          wrote,
+        )
     run_of ends.Long ended =
         let (due, (rest, is, has), waits, all, wrote) = ended.ends in
         by_run ends.Long ended rest due (due_of G first now ended.taken rest due waits.is_begun has)

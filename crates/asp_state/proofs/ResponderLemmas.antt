@@ -99,9 +99,11 @@ broken_rest new rest is hopeless =
 pub fed_rest : (old new : Held) (rest piece : List ℕ) → new ≡ fed old piece
     → IsFalse old.is_broken → IsRest old rest → IsRest new (rest ++ piece)
 fed_rest old new rest piece is whole rested =
-    inl (ap (λ (h : Held). h.is_broken) is ∙ whole,
-         ap (λ r. r ++ piece) (rest_held old rest whole rested)
-             ∙ sym (fed_held old new piece is whole))
+    inl (
+      ap (λ (h : Held). h.is_broken) is ∙ whole,
+      ap (λ r. r ++ piece) (rest_held old rest whole rested)
+          ∙ sym (fed_held old new piece is whole),
+    )
 
 -- ---- one call
 
@@ -117,10 +119,10 @@ module _ {K : Type 0} (G : Ghosts K) (first : Responder K) where
   -- what was due, where the first line was given before
   pub due_of : (now : Responder K) (bytes rest due : List ℕ) → IsTrue now.is_begun
       → HasAnswered G first now bytes rest (owing now.is_begun due)
-          → HasAnswered G first now bytes rest due
+      → HasAnswered G first now bytes rest due
   due_of now bytes rest due begun has =
       same_rest now bytes rest rest (owing now.is_begun due) due refl (ap (λ b. owing b due) begun)
-          has
+      has
 
   -- the same, of a responder whose settings, items and clock are the same
   pub of_same : (old new : Responder K) (bytes rest due : List ℕ) → new.pipe ≡ old.pipe
@@ -164,64 +166,65 @@ module _ {K : Type 0} (G : Ghosts K) (first : Responder K) where
       (parts : rest ≡ front ++ mid.stream.reader.held) (spells : SpellsRequest front m)
       (keeps : Keeps G mid new)
     where
-    before : HasAnswered G first mid bytes (front ++ new.stream.reader.held) due
-    before = same_rest mid bytes rest (front ++ new.stream.reader.held) due due
-        (parts ∙ ap (λ (h : Held). front ++ h.held) (sym keeps.reader)) refl
-        (of_same old mid bytes rest due pipe desk clock has)
+      before : HasAnswered G first mid bytes (front ++ new.stream.reader.held) due
+      before = same_rest mid bytes rest (front ++ new.stream.reader.held) due due
+          (parts ∙ ap (λ (h : Held). front ++ h.held) (sym keeps.reader)) refl
+          (of_same old mid bytes rest due pipe desk clock has)
 
-    pub has_answered : (Gives : List ℕ → Type 0)
-        (one : IsAnswered G.can_count (output_of mid.pipe.journal) Gives m (state_of G mid)
-            (state_of G new))
-        → HasAnswered G first new bytes new.stream.reader.held
+      pub has_answered : (Gives : List ℕ → Type 0)
+          (one : IsAnswered G.can_count (output_of mid.pipe.journal) Gives m (state_of G mid)
+          (state_of G new))
+          → HasAnswered G first new bytes new.stream.reader.held
           (due ++ due_for (output_of mid.pipe.journal) m one.answer (G.count new.desk.keeper))
-    has_answered Gives = subst (λ (p : Pipe).
-        (one : IsAnswered G.can_count (output_of p.journal) Gives m (state_of G mid)
-            (state_of G new))
-        → HasAnswered G first new bytes new.stream.reader.held
+      has_answered Gives = subst (λ (p : Pipe).
+          (one : IsAnswered G.can_count (output_of p.journal) Gives m (state_of G mid)
+          (state_of G new))
+          → HasAnswered G first new bytes new.stream.reader.held
           (due ++ due_for (output_of p.journal) m one.answer (G.count new.desk.keeper)))
-        (sym before.pipe)
-        (λ one. record {
-          pipe = keeps.pipe ∙ before.pipe;
-          floor = keeps.floor ∙ before.floor;
-          progress =
-              goes_on G.can_count first.pipe bytes due front Gives (state_of G mid) (state_of G new)
-              m one spells before.progress;
-        })
+          (sym before.pipe)
+          (λ one. record {
+            pipe = keeps.pipe ∙ before.pipe;
+            floor = keeps.floor ∙ before.floor;
+            progress =
+                goes_on G.can_count first.pipe bytes due front Gives (state_of G mid)
+                (state_of G new)
+                m one spells before.progress;
+          })
 
-    -- there was no memory for it, or for its line
-    pub lacks_line : IsTrue mid.pipe.journal
-        → (new ≡ mid)
-            ⊎ IsAnswered G.can_count outputs.Journal (λ due. ⊤) m (state_of G mid) (state_of G new)
-        → Lacks G first new bytes due
-    lacks_line journal (inl same) = (
-      rest,
-      [],
-      lacks_none (output_of first.pipe.journal),
-      same_rest new bytes rest rest due (due ++ []) refl (sym (append-nil due))
-          (of_same mid new bytes rest due (ap (λ (r : Responder K). r.pipe) same)
-          (ap (λ (r : Responder K). r.desk) same) (ap (λ (r : Responder K). r.clock) same)
-          (of_same old mid bytes rest due pipe desk clock has)),
-    )
-    lacks_line journal (inr one) =
-        let is : output_of mid.pipe.journal ≡ outputs.Journal = ap output_of journal in
-        let is_first : output_of first.pipe.journal ≡ outputs.Journal =
-            ap (λ (p : Pipe). output_of p.journal) (sym before.pipe) ∙ is in (
-          new.stream.reader.held,
-          due_for outputs.Journal m one.answer (G.count new.desk.keeper),
-          subst (λ o. MayLack o (due_for outputs.Journal m one.answer (G.count new.desk.keeper)))
-              (sym is_first) (line_lacks m one.answer (G.count new.desk.keeper)),
-          by_output outputs.Journal is one,
-        )
-      where
-        by_output : (output : Output) → output_of mid.pipe.journal ≡ output
-            → (one : IsAnswered G.can_count output (λ due. ⊤) m (state_of G mid) (state_of G new))
-            → HasAnswered G first new bytes new.stream.reader.held
+      -- there was no memory for it, or for its line
+      pub lacks_line : IsTrue mid.pipe.journal
+          → (new ≡ mid)
+          ⊎ IsAnswered G.can_count outputs.Journal (λ due. ⊤) m (state_of G mid) (state_of G new)
+          → Lacks G first new bytes due
+      lacks_line journal (inl same) = (
+        rest,
+        [],
+        lacks_none (output_of first.pipe.journal),
+        same_rest new bytes rest rest due (due ++ []) refl (sym (append-nil due))
+            (of_same mid new bytes rest due (ap (λ (r : Responder K). r.pipe) same)
+            (ap (λ (r : Responder K). r.desk) same) (ap (λ (r : Responder K). r.clock) same)
+            (of_same old mid bytes rest due pipe desk clock has)),
+      )
+      lacks_line journal (inr one) =
+          let is : output_of mid.pipe.journal ≡ outputs.Journal = ap output_of journal in
+          let is_first : output_of first.pipe.journal ≡ outputs.Journal =
+          ap (λ (p : Pipe). output_of p.journal) (sym before.pipe) ∙ is in (
+            new.stream.reader.held,
+            due_for outputs.Journal m one.answer (G.count new.desk.keeper),
+            subst (λ o. MayLack o (due_for outputs.Journal m one.answer (G.count new.desk.keeper)))
+                (sym is_first) (line_lacks m one.answer (G.count new.desk.keeper)),
+            by_output outputs.Journal is one,
+          )
+        where
+          by_output : (output : Output) → output_of mid.pipe.journal ≡ output
+              → (one : IsAnswered G.can_count output (λ due. ⊤) m (state_of G mid) (state_of G new))
+              → HasAnswered G first new bytes new.stream.reader.held
               (due ++ due_for output m one.answer (G.count new.desk.keeper))
-        by_output output is = subst (λ (o : Output).
-            (one : IsAnswered G.can_count o (λ due. ⊤) m (state_of G mid) (state_of G new))
-            → HasAnswered G first new bytes new.stream.reader.held
+          by_output output is = subst (λ (o : Output).
+              (one : IsAnswered G.can_count o (λ due. ⊤) m (state_of G mid) (state_of G new))
+              → HasAnswered G first new bytes new.stream.reader.held
               (due ++ due_for o m one.answer (G.count new.desk.keeper))) is
-            (has_answered (λ due. ⊤))
+              (has_answered (λ due. ⊤))
 
   -- nothing was answered for want of memory
   pub lacks_all : (now : Responder K) (bytes rest due : List ℕ)
@@ -250,42 +253,48 @@ module _ {K : Type 0} (G : Ghosts K) (first : Responder K) where
       (took : TakesMessage SpellsRequest old.stream.reader taken.reader m)
       (keeps : Keeps G (record old { stream = taken }) new)
     where
-    parts_of : IsFalse old.stream.reader.is_broken × (went.0 ≡ took.front ++ taken.reader.held)
-    parts_of = of went.1
-      where
-        of : IsRest old.stream.reader went.0
-            → IsFalse old.stream.reader.is_broken × (went.0 ≡ took.front ++ taken.reader.held)
-        of (inl (sound, is)) = (sound, is ∙ took.held)
-        of (inr (wrong, hopeless)) = absurd (whole wrong)
+      parts_of : IsFalse old.stream.reader.is_broken × (went.0 ≡ took.front ++ taken.reader.held)
+      parts_of = of went.1
+        where
+          of : IsRest old.stream.reader went.0
+              → IsFalse old.stream.reader.is_broken × (went.0 ≡ took.front ++ taken.reader.held)
+          of (inl (sound, is)) = (sound, is ∙ took.held)
+          of (inr (wrong, hopeless)) = absurd (whole wrong)
 
-    has_before : HasAnswered G first old bytes went.0 due
-    has_before = due_of old bytes went.0 due begun went.2
+      has_before : HasAnswered G first old bytes went.0 due
+      has_before = due_of old bytes went.0 due begun went.2
 
-    -- a message was answered
-    pub step_did : IsAnswered G.can_count (output_of old.pipe.journal) (λ due. given new ≡ due) m
+      -- a message was answered
+      pub step_did : IsAnswered G.can_count (output_of old.pipe.journal) (λ due. given new ≡ due) m
           (state_of G (record old { stream = taken })) (state_of G new)
-        → Went G first new bytes (due ++ given new) × Gave G first new bytes due (given new)
-    step_did one =
-        let all = has_answered old (record old { stream = taken }) new bytes went.0 due took.front m
-            has_before refl refl refl parts_of.1 took.spells keeps (λ due. given new ≡ due) one in
-        let same : HasAnswered G first new bytes new.stream.reader.held (due ++ given new) =
-            subst (λ d. HasAnswered G first new bytes new.stream.reader.held (due ++ d))
-            (sym one.gives) all in
-        let sound : IsFalse new.stream.reader.is_broken =
-            ap (λ (h : Held). h.is_broken) keeps.reader ∙ took.whole ∙ parts_of.0 in
-        ((new.stream.reader.held, inl (sound, refl),
-          owed new bytes new.stream.reader.held (due ++ given new) (keeps.is_begun ∙ begun) same),
-         (new.stream.reader.held, same))
+          → Went G first new bytes (due ++ given new) × Gave G first new bytes due (given new)
+      step_did one =
+          let all = has_answered old (record old { stream = taken }) new bytes went.0 due took.front
+          m
+          has_before refl refl refl parts_of.1 took.spells keeps (λ due. given new ≡ due) one in
+          let same : HasAnswered G first new bytes new.stream.reader.held (due ++ given new) =
+          subst (λ d. HasAnswered G first new bytes new.stream.reader.held (due ++ d))
+          (sym one.gives) all in
+          let sound : IsFalse new.stream.reader.is_broken =
+          ap (λ (h : Held). h.is_broken) keeps.reader ∙ took.whole ∙ parts_of.0 in (
+            (
+              new.stream.reader.held,
+              inl (sound, refl),
+              owed new bytes new.stream.reader.held (due ++ given new) (keeps.is_begun
+                  ∙ begun) same,
+            ),
+            (new.stream.reader.held, same),
+          )
 
-    -- there was no memory to answer it, or for its line
-    pub step_lacks : IsTrue old.pipe.journal
-        → (new ≡ record old { stream = taken })
+      -- there was no memory to answer it, or for its line
+      pub step_lacks : IsTrue old.pipe.journal
+          → (new ≡ record old { stream = taken })
           ⊎ IsAnswered G.can_count outputs.Journal (λ due. ⊤) m
-            (state_of G (record old { stream = taken })) (state_of G new)
-        → Lacks G first new bytes due
-    step_lacks journal either =
-        lacks_line old (record old { stream = taken }) new bytes went.0 due took.front m
-        has_before refl refl refl parts_of.1 took.spells keeps journal either
+          (state_of G (record old { stream = taken })) (state_of G new)
+          → Lacks G first new bytes due
+      step_lacks journal either =
+          lacks_line old (record old { stream = taken }) new bytes went.0 due took.front m
+          has_before refl refl refl parts_of.1 took.spells keeps journal either
 
   -- the first line of a journal is given
   pub begin_did : (old new : Responder K) (bytes due : List ℕ) → new.pipe ≡ old.pipe
@@ -295,92 +304,97 @@ module _ {K : Type 0} (G : Ghosts K) (first : Responder K) where
       → Went G first new bytes (due ++ given new) × Gave G first new bytes due (given new)
   begin_did old new bytes due pipe desk clock stream owes begun gives (rest, is, has) =
       let line : due ++ journal_text 0 [] ≡ due ++ given new =
-          ap (λ l. due ++ l) (sym (gives ∙ append-nil (journal_text 0 []))) in
+      ap (λ l. due ++ l) (sym (gives ∙ append-nil (journal_text 0 []))) in
       let now : HasAnswered G first new bytes rest (due ++ given new) =
-          of_same old new bytes rest (due ++ given new) pipe desk clock
-          (same_rest old bytes rest rest (owing old.is_begun due) (due ++ given new) refl
-          (ap (λ b. owing b due) owes ∙ line) has) in
-      ((rest, subst (λ (s : Connection). IsRest s.reader rest) (sym stream) is,
-        owed new bytes rest (due ++ given new) begun now),
-       (rest, now))
+      of_same old new bytes rest (due ++ given new) pipe desk clock
+      (same_rest old bytes rest rest (owing old.is_begun due) (due ++ given new) refl
+      (ap (λ b. owing b due) owes ∙ line) has) in (
+        (
+          rest,
+          subst (λ (s : Connection). IsRest s.reader rest) (sym stream) is,
+          owed new bytes rest (due ++ given new) begun now,
+        ),
+        (rest, now),
+      )
 
   -- ---- the calls of the loop
 
   module _ (old new : Responder K) (bytes due : List ℕ) (pipe : new.pipe ≡ old.pipe)
       (desk : new.desk ≡ old.desk) (clock : new.clock ≡ old.clock)
-          (went : Went G first old bytes due)
+      (went : Went G first old bytes due)
     where
-    -- nothing changed but the bytes held
-    has_now : IsTrue old.is_begun → HasAnswered G first new bytes went.0 due
-    has_now begun = of_same old new bytes went.0 due pipe desk clock
-        (due_of old bytes went.0 due begun went.2)
+      -- nothing changed but the bytes held
+      has_now : IsTrue old.is_begun → HasAnswered G first new bytes went.0 due
+      has_now begun = of_same old new bytes went.0 due pipe desk clock
+          (due_of old bytes went.0 due begun went.2)
 
-    -- a piece was fed
-    pub feed_went : (piece : List ℕ) → Waits true old → new.is_begun ≡ old.is_begun
-        → new.stream.reader ≡ fed old.stream.reader piece → Went G first new (bytes ++ piece) due
-    feed_went piece waits begun is = (
-      went.0 ++ piece,
-      fed_rest old.stream.reader new.stream.reader went.0 piece is (waits.whole refl) went.1,
-      owed new (bytes ++ piece) (went.0 ++ piece) due (begun ∙ waits.is_begun)
-          (has_fed new bytes went.0 due piece (has_now waits.is_begun)),
-    )
+      -- a piece was fed
+      pub feed_went : (piece : List ℕ) → Waits true old → new.is_begun ≡ old.is_begun
+          → new.stream.reader ≡ fed old.stream.reader piece → Went G first new (bytes ++ piece) due
+      feed_went piece waits begun is = (
+        went.0 ++ piece,
+        fed_rest old.stream.reader new.stream.reader went.0 piece is (waits.whole refl) went.1,
+        owed new (bytes ++ piece) (went.0 ++ piece) due (begun ∙ waits.is_begun)
+            (has_fed new bytes went.0 due piece (has_now waits.is_begun)),
+      )
 
-    -- there was no memory for a piece
-    pub feed_lacks : (piece : List ℕ) → Waits true old → Lacks G first new (bytes ++ piece) due
-    feed_lacks piece waits =
-        lacks_all new (bytes ++ piece) (went.0 ++ piece) due
-        (has_fed new bytes went.0 due piece (has_now waits.is_begun))
+      -- there was no memory for a piece
+      pub feed_lacks : (piece : List ℕ) → Waits true old → Lacks G first new (bytes ++ piece) due
+      feed_lacks piece waits =
+          lacks_all new (bytes ++ piece) (went.0 ++ piece) due
+          (has_fed new bytes went.0 due piece (has_now waits.is_begun))
 
-    -- no message is whole
-    pub step_waits : IsTrue old.is_begun → new.is_begun ≡ old.is_begun
-        → new.stream.reader ≡ waiting old.stream.reader → Went G first new bytes due
-    step_waits begun same is = (
-      went.0,
-      waiting_rest old.stream.reader new.stream.reader went.0 is went.1,
-      owed new bytes went.0 due (same ∙ begun) (has_now begun),
-    )
-
-    -- there was no memory for a message
-    pub step_lacks_all : IsTrue old.is_begun → Lacks G first new bytes due
-    step_lacks_all begun = lacks_all new bytes went.0 due (has_now begun)
-
-    module _ (hopeless : IsTrue old.stream.reader.is_broken
-          ⊎ IsHopeless SpellsRequest old.stream.reader.held) (begun : IsTrue old.is_begun)
-      where
-      -- the bytes can become no message, and no more may follow
-      pub step_broken : new.is_begun ≡ old.is_begun → new.stream.reader ≡ broken
-          → Went G first new bytes due
-      step_broken same is = (
+      -- no message is whole
+      pub step_waits : IsTrue old.is_begun → new.is_begun ≡ old.is_begun
+          → new.stream.reader ≡ waiting old.stream.reader → Went G first new bytes due
+      step_waits begun same is = (
         went.0,
-        broken_rest new.stream.reader went.0 is
-            (rest_hopeless old.stream.reader went.0 went.1 hopeless),
+        waiting_rest old.stream.reader new.stream.reader went.0 is went.1,
         owed new bytes went.0 due (same ∙ begun) (has_now begun),
       )
 
-      -- or more could follow
-      pub step_breaks : (rest : List ℕ) × IsHopeless SpellsRequest rest
-          × HasAnswered G first new bytes rest due
-      step_breaks =
-          (went.0, rest_hopeless old.stream.reader went.0 went.1 hopeless, has_now begun)
+      -- there was no memory for a message
+      pub step_lacks_all : IsTrue old.is_begun → Lacks G first new bytes due
+      step_lacks_all begun = lacks_all new bytes went.0 due (has_now begun)
 
-    -- the input ended behind a message
-    pub finish_whole : Waits true old → old.stream.reader.held ≡ []
-        → HasAnswered G first new bytes [] due
-    finish_whole waits none =
-        same_rest new bytes went.0 [] due due
-        (rest_held old.stream.reader went.0 (waits.whole refl) went.1 ∙ none) refl
-        (has_now waits.is_begun)
+      module _ (hopeless : IsTrue old.stream.reader.is_broken
+          ⊎ IsHopeless SpellsRequest old.stream.reader.held) (begun : IsTrue old.is_begun)
+        where
+          -- the bytes can become no message, and no more may follow
+          pub step_broken : new.is_begun ≡ old.is_begun → new.stream.reader ≡ broken
+              → Went G first new bytes due
+          step_broken same is = (
+            went.0,
+            broken_rest new.stream.reader went.0 is
+                (rest_hopeless old.stream.reader went.0 went.1 hopeless),
+            owed new bytes went.0 due (same ∙ begun) (has_now begun),
+          )
 
-    -- or inside one
-    pub finish_broken : Waits true old → (old.stream.reader.held ≡ [] → ⊥)
-        → (rest : List ℕ) × (rest ≢ []) × HasNoMessage SpellsRequest rest
+          -- or more could follow
+          pub step_breaks : (rest : List ℕ) × IsHopeless SpellsRequest rest
+              × HasAnswered G first new bytes rest due
+          step_breaks =
+              (went.0, rest_hopeless old.stream.reader went.0 went.1 hopeless, has_now begun)
+
+      -- the input ended behind a message
+      pub finish_whole : Waits true old → old.stream.reader.held ≡ []
+          → HasAnswered G first new bytes [] due
+      finish_whole waits none =
+          same_rest new bytes went.0 [] due due
+          (rest_held old.stream.reader went.0 (waits.whole refl) went.1 ∙ none) refl
+          (has_now waits.is_begun)
+
+      -- or inside one
+      pub finish_broken : Waits true old → (old.stream.reader.held ≡ [] → ⊥)
+          → (rest : List ℕ) × (rest ≢ []) × HasNoMessage SpellsRequest rest
           × HasAnswered G first new bytes rest due
-    finish_broken waits some =
-        let is = rest_held old.stream.reader went.0 (waits.whole refl) went.1 in
-        (went.0,
-         (λ none. some (sym is ∙ none)),
-         rest_waits old.stream.reader went.0 went.1 waits.none,
-         has_now waits.is_begun)
+      finish_broken waits some =
+          let is = rest_held old.stream.reader went.0 (waits.whole refl) went.1 in (
+            went.0,
+            (λ none. some (sym is ∙ none)),
+            rest_waits old.stream.reader went.0 went.1 waits.none,
+            has_now waits.is_begun,
+          )
 
 -- a message that was taken makes fewer bytes
 pub step_smaller : {K : Type 0} (G : Ghosts K) (old : Responder K) (taken : Connection)
@@ -388,9 +402,15 @@ pub step_smaller : {K : Type 0} (G : Ghosts K) (old : Responder K) (taken : Conn
     → TakesMessage SpellsRequest old.stream.reader taken.reader m
     → Keeps G (record old { stream = taken }) new
     → length new.stream.reader.held + unbegun new.is_begun
-      < length old.stream.reader.held + unbegun old.is_begun
+    < length old.stream.reader.held + unbegun old.is_begun
 step_smaller G old taken new m took keeps =
     let held = ap (λ (h : Held). length h.held) keeps.reader in
     let begun = ap unbegun keeps.is_begun in
-    omega (arith, held, begun, spelling_some took.front m took.spells, ap length took.held,
-    length-append took.front taken.reader.held)
+    omega (
+      arith,
+      held,
+      begun,
+      spelling_some took.front m took.spells,
+      ap length took.held,
+      length-append took.front taken.reader.held,
+    )

@@ -43,7 +43,7 @@ pub record AnswersRequest (CanCount : ℕ → Type 0) (r : Request) (old new : S
       → DeskStandsFor CanCount first nothing 0 list old.told old.faults old.cookies
       → (answer.drawn ≡ draw_of first old.cookies.last (draws_in list) r.ask)
       × DeskStandsFor CanCount first nothing 0 (list ++ entry_of r answer new.faults ∷ [])
-        new.told new.faults new.cookies
+      new.told new.faults new.cookies
   pub last : new.cookies.last ≡ old.cookies.last
 
 -- a message was answered; one that is no request changes nothing

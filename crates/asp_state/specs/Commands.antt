@@ -46,18 +46,18 @@ module _ {S K : Type 0} (G : Ghosts K) (seen : Seen S K) where
   abbrev pub Does : Command → Type 0
   Does (commands.Pipe run) = (end : pipe.End) × (seen.result.status ≡ pipe.status_number end)
       × pipe.IsRun G.can_count run seen.flow
-        (G.told seen.result.keeper) (G.count seen.result.keeper) end
+      (G.told seen.result.keeper) (G.count seen.result.keeper) end
   Does (commands.Load load) = (seen.source' ≡ seen.source)
       × IsLoad G.can_count load.requests load.seed seen.flow.sink seen.flow.sink'
-        (G.told seen.result.keeper) (G.count seen.result.keeper) seen.result.status
+      (G.told seen.result.keeper) (G.count seen.result.keeper) seen.result.status
   Does commands.Replay = (seen.result.keeper ≡ seen.keeper)
       × ((end : replay.End) × (seen.result.status ≡ replay.status_number end)
-        × replay.IsReplay (2 ^ 40) seen.flow.source seen.flow.source' seen.flow.sink
-          seen.flow.sink' end)
+      × replay.IsReplay (2 ^ 40) seen.flow.source seen.flow.source' seen.flow.sink
+      seen.flow.sink' end)
   Does commands.Drive = (seen.result.status ≡ 3 → drive.TellsScript seen.flow.source → ⊥)
       × ((end : drive.End) × (seen.result.status ≡ drive.status_number end)
-        × drive.IsDrive G.can_count (2 ^ 40) seen.flow
-          (G.told seen.result.keeper) (G.count seen.result.keeper) end)
+      × drive.IsDrive G.can_count (2 ^ 40) seen.flow
+      (G.told seen.result.keeper) (G.count seen.result.keeper) end)
   Does (commands.Id bytes) = (seen.source' ≡ seen.source) × (seen.result.keeper ≡ seen.keeper)
       × WritesLine seen.result.status seen.flow.sink seen.flow.sink' (text_of bytes ++ 10 ∷ [])
 
@@ -68,7 +68,7 @@ Completes told status (commands.Pipe run) =
     pipe.IsWholeInput told run.most → (status ≡ 0) ⊎ (status ≡ 6)
 Completes told status commands.Replay =
     ((place : ℕ) (list : List Entry) → replay.TellsJournal told (2 ^ 40) place list
-      → replay.IsStatusOf status place list)
+    → replay.IsStatusOf status place list)
     × (replay.TellsNoJournal told (2 ^ 40) → (status ≡ 3) ⊎ (status ≡ 6))
 Completes told status commands.Drive =
     drive.TellsScript told → drive.TellsFewer told (2 ^ 40) → (status ≡ 0) ⊎ (status ≡ 6)

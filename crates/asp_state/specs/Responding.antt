@@ -89,7 +89,7 @@ module _ {K : Type 0} (G : Ghosts K) where
   Closes Whole first now bytes whole last = (last ≡ []) × HasAnswered first now bytes [] whole
   Closes Broken first now bytes whole last = (last ≡ closing (output_of first.pipe.journal))
       × ((rest : List ℕ) × (rest ≢ []) × HasNoMessage SpellsRequest rest
-        × HasAnswered first now bytes rest whole)
+      × HasAnswered first now bytes rest whole)
 
   -- a journal's last line may lack
   abbrev pub Lacks : Responder K → Responder K → List ℕ → List ℕ → Type 0

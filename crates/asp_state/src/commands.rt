@@ -41,18 +41,18 @@ pub fn command<S: Source, T: Sink, K: Keeper>(
 
     // What the command that the words say does: to the source, the sink and the keeper.
     ensures does { IfSome (command_of (map string_bytes words.now)) (Does ⟦<K as Keeper>⟧ (record {
-        source = source.old;
-        source' = source.new;
-        flow = flow (S.told source.old) (S.told source.new) (T.taken sink.old) (T.taken sink.new);
-        keeper = keeper;
-        result = result;
+      source = source.old;
+      source' = source.new;
+      flow = flow (S.told source.old) (S.told source.new) (T.taken sink.old) (T.taken sink.new);
+      keeper = keeper;
+      result = result;
     })) }
 
     // Where neither source nor sink fails, it does all of that, if memory is there.
     ensures complete { (Rose (S.faults source.old) (S.faults source.new) → ⊥)
         → (Rose (T.faults sink.old) (T.faults sink.new) → ⊥)
         → IfSome (command_of (map string_bytes words.now))
-            (Completes (S.told source.old) result.status) }
+        (Completes (S.told source.old) result.status) }
     ensures floor { K.floor result.keeper ≡ K.floor keeper }
 {
     match command_of(words) {

@@ -32,8 +32,8 @@ pub fn run_pipe<S: Source, T: Sink, K: Keeper>(
     // There is one ending, whose number is the status, and one run that ended so.
     ensures ran { (end : End) × (result.status ≡ status_number end)
         × IsRun K.can_count pipe
-            (flow (S.told source.old) (S.told source.new) (T.taken sink.old) (T.taken sink.new))
-            (K.told result.keeper) (K.count result.keeper) end }
+        (flow (S.told source.old) (S.told source.new) (T.taken sink.old) (T.taken sink.new))
+        (K.told result.keeper) (K.count result.keeper) end }
     ensures read { result.status ≡ 4 → Rose (S.faults source.old) (S.faults source.new) }
     ensures write { result.status ≡ 5 → Rose (T.faults sink.old) (T.faults sink.new) }
 

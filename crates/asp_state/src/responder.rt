@@ -144,7 +144,7 @@ impl<K: Keeper> Responder<K> {
             (state_of ⟦<K as Keeper>⟧ self.old) (state_of ⟦<K as Keeper>⟧ self.new)) }
         ensures no_memory { OnErr result ((self.new ≡ self.old)
             ⊎ IsAnswered K.can_count outputs.Journal (λ due. ⊤) (Message.Fit request)
-                (state_of ⟦<K as Keeper>⟧ self.old) (state_of ⟦<K as Keeper>⟧ self.new)) }
+            (state_of ⟦<K as Keeper>⟧ self.old) (state_of ⟦<K as Keeper>⟧ self.new)) }
         ensures keeps { Keeps ⟦<K as Keeper>⟧ self.old self.new }
     {
         let asked = request.copy(self.alloc)?;
@@ -172,7 +172,7 @@ impl<K: Keeper> Responder<K> {
             (state_of ⟦<K as Keeper>⟧ self.old) (state_of ⟦<K as Keeper>⟧ self.new)) }
         ensures no_memory { OnErr result ((self.new ≡ self.old)
             ⊎ IsAnswered K.can_count outputs.Journal (λ due. ⊤) message
-                (state_of ⟦<K as Keeper>⟧ self.old) (state_of ⟦<K as Keeper>⟧ self.new)) }
+            (state_of ⟦<K as Keeper>⟧ self.old) (state_of ⟦<K as Keeper>⟧ self.new)) }
         ensures keeps { Keeps ⟦<K as Keeper>⟧ self.old self.new }
     {
         match message {
@@ -195,7 +195,7 @@ impl<K: Keeper> Responder<K> {
         ensures journal { OnErr result (IsTrue self.old.pipe.journal) }
         ensures no_memory { OnErr result ((self.new ≡ self.old)
             ⊎ IsAnswered K.can_count outputs.Journal (λ due. ⊤) message
-                (state_of ⟦<K as Keeper>⟧ self.old) (state_of ⟦<K as Keeper>⟧ self.new)) }
+            (state_of ⟦<K as Keeper>⟧ self.old) (state_of ⟦<K as Keeper>⟧ self.new)) }
         ensures keeps { Keeps ⟦<K as Keeper>⟧ self.old self.new }
     {
         match self.pipe.output() {

@@ -34,12 +34,18 @@ locks_of (Illegal at why) place list judges = tt
 judged_of : (bytes : List ℕ) (checker : Checked) (judgement : Judgement) (taken : Taken)
     → IsJournalOf bytes taken → Checks taken checker
     → ((list : List Entry) → HasTaken checker list → Judges checker.first list judgement)
-        → IsJudged bytes judgement
+    → IsJudged bytes judgement
 judged_of bytes checker judgement None journal checks judges = absurd journal
 judged_of bytes checker judgement (Some t) journal checks judges =
     let judged = subst (λ p. Judges p t.1 judgement) checks.0 (judges t.1 checks.1) in
-    record { place = t.0; list = t.1; journal = journal; judges = judged; locks =
-        locks_of judgement t.0 t.1 judged }
+    record {
+      place = t.0;
+      list = t.1;
+      journal = journal;
+      judges = judged;
+      locks =
+          locks_of judgement t.0 t.1 judged;
+    }
 
 -- what the judgement finds, with its line
 pub finds_judged : (judgement : Judgement) (verdict : Verdict) (bytes : List ℕ) (reader : Reading)
@@ -47,11 +53,11 @@ pub finds_judged : (judgement : Judgement) (verdict : Verdict) (bytes : List ℕ
     → ((text : List ℕ) (taken : Taken) → HasRead text taken reader → IsJournalOf text taken)
     → ((list : List Entry) → HasTaken checker list → Judges checker.first list judgement)
     → verdict ≡ verdict_of judgement → line ≡ judgement_line judgement
-        → HasReplayed bytes reader checker → Finds verdict bytes line
+    → HasReplayed bytes reader checker → Finds verdict bytes line
 finds_judged judgement verdict bytes reader checker line journal judges is line_is has =
     subst (λ v. Finds v bytes line) (sym is)
     (finds judgement (judged_of bytes checker judgement has.taken (journal bytes has.taken has.read)
-        has.checks judges) line_is)
+    has.checks judges) line_is)
   where
     finds : (judgement : Judgement) → IsJudged bytes judgement → line ≡ judgement_line judgement
         → Finds (verdict_of judgement) bytes line
@@ -84,7 +90,7 @@ module _ (most : ℕ) (first now : Replayer) (source' : Option (List ℕ
   -- what a replay is over with is due, and nothing was written before it
   due_of : (verdict : Verdict) (whole last : List ℕ)
       → IsOver ghosts most first now source' bytes verdict whole last → (whole ≡ [])
-          × IsDue verdict source' bytes most last
+      × IsDue verdict source' bytes most last
   due_of verdicts.Legal whole last (inl (closes, end, some)) = (closes.0, ((end, some), closes.1))
   due_of verdicts.Illegal whole last (inl (closes, end, some)) = (closes.0, ((end, some), closes.1))
   due_of verdicts.NotAJournal whole last (inl (closes, end, some)) =
@@ -109,47 +115,54 @@ module _ (most : ℕ) (first now : Replayer) (source' : Option (List ℕ
 module _ (most : ℕ) (first now : Replayer) (source source' : Option (List ℕ × List ℕ))
     (sink sink' : Option (List ℕ))
   where
-  ends_of : (end : End) (run : Ended ghosts most first now (flow source source' sink sink') end)
-      → EndsAs end source' sink sink' run.taken most
-  ends_of (ends.Over verdict) run =
-      let (whole, last, over, wrote) = run.ends in
-      let due = due_of most first now source' sink sink' run.taken verdict whole last over in
-      (last, due.1, last_only most first now source' sink sink' run.taken whole last due.0 wrote)
-  ends_of ends.ReadFault run =
-      let (due, went, waits, some, wrote) = run.ends in
-      (lines_of run.taken now.reader now.checker went.0 waits, some,
-       none_taken most first now source' sink sink' run.taken due went.1 wrote)
-  ends_of ends.WriteFault run =
-      in_part run.ends.0 run.ends.1 run.ends.2 run.ends.3 run.ends.4 run.ends.5 run.ends.6
-    where
-      in_part : (whole last : List ℕ) (n : ℕ)
-          → ((verdict : Verdict)
-              × IsOver ghosts most first now source' run.taken verdict whole last)
+    ends_of : (end : End) (run : Ended ghosts most first now (flow source source' sink sink') end)
+        → EndsAs end source' sink sink' run.taken most
+    ends_of (ends.Over verdict) run =
+        let (whole, last, over, wrote) = run.ends in
+        let due = due_of most first now source' sink sink' run.taken verdict whole last over in
+        (last, due.1, last_only most first now source' sink sink' run.taken whole last due.0 wrote)
+    ends_of ends.ReadFault run =
+        let (due, went, waits, some, wrote) = run.ends in (
+          lines_of run.taken now.reader now.checker went.0 waits,
+          some,
+          none_taken most first now source' sink sink' run.taken due went.1 wrote,
+        )
+    ends_of ends.WriteFault run =
+        in_part run.ends.0 run.ends.1 run.ends.2 run.ends.3 run.ends.4 run.ends.5 run.ends.6
+      where
+        in_part : (whole last : List ℕ) (n : ℕ)
+            → ((verdict : Verdict)
+            × IsOver ghosts most first now source' run.taken verdict whole last)
             ⊎ (last ≡ [])
-          → 0 < length last → n ≤ length last → Takes sink sink' (whole ++ take n last)
-          → EndsAs ends.WriteFault source' sink sink' run.taken most
-      in_part whole last n (inl (verdict, over)) some le wrote =
-          let due = due_of most first now source' sink sink' run.taken verdict whole last over in
-          (verdict, last, due.1,
-           last_front most first now source' sink sink' run.taken whole last n due.0 le wrote)
-      in_part whole last n (inr none) some le wrote =
-          absurd (let none_long = ap length none in let wrong : ⊥ =
-              omega (arith, none_long, some) in wrong)
-  ends_of ends.NoMemory run =
-      none_taken most first now source' sink sink' run.taken run.ends.0 run.ends.1 run.ends.2
-  ends_of ends.Long run =
-      let (due, went, waits, all, wrote) = run.ends in
-      (lines_of run.taken now.reader now.checker went.0 waits, all,
-       none_taken most first now source' sink sink' run.taken due went.1 wrote)
+            → 0 < length last → n ≤ length last → Takes sink sink' (whole ++ take n last)
+            → EndsAs ends.WriteFault source' sink sink' run.taken most
+        in_part whole last n (inl (found, over)) some le wrote =
+            let due = due_of most first now source' sink sink' run.taken found whole last over in (
+              found,
+              last,
+              due.1,
+              last_front most first now source' sink sink' run.taken whole last n due.0 le wrote,
+            )
+        in_part whole last n (inr none) some le wrote =
+            absurd (let none_long = ap length none in let wrong : ⊥ =
+            omega (arith, none_long, some) in wrong)
+    ends_of ends.NoMemory run =
+        none_taken most first now source' sink sink' run.taken run.ends.0 run.ends.1 run.ends.2
+    ends_of ends.Long run =
+        let (due, went, waits, all, wrote) = run.ends in (
+          lines_of run.taken now.reader now.checker went.0 waits,
+          all,
+          none_taken most first now source' sink sink' run.taken due went.1 wrote,
+        )
 
-  pub replay_of : (end : End) → Ended ghosts most first now (flow source source' sink sink') end
-      → IsReplay most source source' sink sink' end
-  replay_of end run = record {
-    bytes = run.taken;
-    given = run.given;
-    within = run.within;
-    ends = ends_of end run;
-  }
+    pub replay_of : (end : End) → Ended ghosts most first now (flow source source' sink sink') end
+        → IsReplay most source source' sink sink' end
+    replay_of end run = record {
+      bytes = run.taken;
+      given = run.given;
+      within = run.within;
+      ends = ends_of end run;
+    }
 
 -- ---- completeness: what the loop's clause says of an input that is told
 
@@ -157,13 +170,18 @@ module _ (first now : Replayer) (input : List ℕ) where
   -- what is found is found of the whole input
   found_of : (verdict : Verdict) (whole last : List ℕ)
       → Closes verdict first now input whole last
-        ⊎ ((front : List ℕ) × (behind : List ℕ) × (more : Bool) × (input ≡ front ++ behind)
-          × Breaks more verdict first now front whole last)
+      ⊎ ((front : List ℕ) × (behind : List ℕ) × (more : Bool) × (input ≡ front ++ behind)
+      × Breaks more verdict first now front whole last)
       → (line : List ℕ) × Finds verdict input line
   found_of verdict whole last (inl closes) = (last, closes.1)
-  found_of verdicts.NotAJournal whole last (inr (front, behind, more, is, breaks)) =
-      (last, (breaks.1.0, subst (λ t. StopsAt t breaks.1.0) (sym is) (breaks.1.1 behind),
-          breaks.1.2))
+  found_of verdicts.NotAJournal whole last (inr (front, behind, more, is, breaks)) = (
+    last,
+    (
+      breaks.1.0,
+      subst (λ t. StopsAt t breaks.1.0) (sym is) (breaks.1.1 behind),
+      breaks.1.2,
+    ),
+  )
   found_of verdicts.Legal whole last (inr (front, behind, more, is, breaks)) = absurd breaks
   found_of verdicts.Illegal whole last (inr (front, behind, more, is, breaks)) = absurd breaks
 
@@ -177,7 +195,7 @@ module _ (input : List ℕ) where
 
   status_judged : (verdict : Verdict) (line : List ℕ) → Finds verdict input line → (place : ℕ)
       (list : List Entry) → IsJournal input place list
-          → IsStatusOf (verdict_number verdict) place list
+      → IsStatusOf (verdict_number verdict) place list
   status_judged verdicts.Legal line (entries, judged, is) place list journal =
       inl (Legal entries, judges_of (Legal entries) judged place list journal, refl)
   status_judged verdicts.Illegal line (at, why, judged, is) place list journal =

@@ -53,8 +53,8 @@ stops_whatever text more taken r has wrong = record {
   offset_is = has.offset_is;
   stops = inl (no_line_more (is_some taken) has.rest more
       (subst (λ b. IsNoLine b has.rest) has.begun
-          (of_broken r.is_broken (IsNoLine r.is_begun has.rest) (has.rest ≡ r.held) wrong
-              has.holds)));
+      (of_broken r.is_broken (IsNoLine r.is_begun has.rest) (has.rest ≡ r.held) wrong
+      has.holds)));
 }
 
 -- ---- the entries are no more than the bytes
@@ -90,42 +90,52 @@ few_taken text r checker has short begun =
 pub head_at : (text : List ℕ) (place : ℕ) (old new : Reading) (checker checker' : Checked)
     → old.is_begun ≡ false → HasReplayed text old checker
     → ((taken : Taken) → HasRead text taken old
-        → HasRead text (taken_with (nexts.Head place) taken) new) → new.is_broken ≡ false
+    → HasRead text (taken_with (nexts.Head place) taken) new) → new.is_broken ≡ false
     → checker'.first ≡ place → HasTaken checker' [] → HasReplayed text new checker'
 head_at text place old new checker checker' begun has reads whole first empty =
     at has.taken has.read
   where
     at : (taken : Taken) → HasRead text taken old → HasReplayed text new checker'
-    at None read = record { taken = Some (place, []); read = reads None read; checks =
-        (first, empty); whole = whole }
+    at None read = record {
+      taken = Some (place, []);
+      read = reads None read;
+      checks =
+          (first, empty);
+      whole = whole;
+    }
     at (Some t) read = let some = read.begun in cc
 
 -- the line of an entry was taken
 pub entry_at : (text : List ℕ) (e : Entry) (old new : Reading) (checker checker' : Checked)
     → old.is_begun ≡ true → HasReplayed text old checker
     → ((taken : Taken) → HasRead text taken old
-        → HasRead text (taken_with (nexts.Entry e) taken) new) → new.is_broken ≡ false
+    → HasRead text (taken_with (nexts.Entry e) taken) new) → new.is_broken ≡ false
     → checker'.first ≡ checker.first
-        → ((list : List Entry) → HasTaken checker list → HasTaken checker' (list ++ e ∷ []))
-            → HasReplayed text new checker'
+    → ((list : List Entry) → HasTaken checker list → HasTaken checker' (list ++ e ∷ []))
+    → HasReplayed text new checker'
 entry_at text e old new checker checker' begun has reads whole first takes =
     at has.taken has.read has.checks
   where
     at : (taken : Taken) → HasRead text taken old → Checks taken checker
         → HasReplayed text new checker'
     at None read checks = let none = read.begun in cc
-    at (Some t) read checks = record { taken = Some (t.0, t.1 ++ e ∷ []); read =
-        reads (Some t) read; checks = (first ∙ checks.0, takes t.1 checks.1); whole = whole }
+    at (Some t) read checks = record {
+      taken = Some (t.0, t.1 ++ e ∷ []);
+      read =
+          reads (Some t) read;
+      checks = (first ∙ checks.0, takes t.1 checks.1);
+      whole = whole;
+    }
 
 -- the next line is none
 pub stops_none : (text : List ℕ) (old new : Reading) (checker : Checked) (offset : ℕ)
     → new ≡ broken old → offset ≡ old.offset
     → ((taken : Taken) → HasRead text taken old → HasRead text taken new)
-        → HasReplayed text old checker → (more : List ℕ) → StopsAt (text ++ more) offset
+    → HasReplayed text old checker → (more : List ℕ) → StopsAt (text ++ more) offset
 stops_none text old new checker offset is at reads has more =
     subst (StopsAt (text ++ more)) (ap (λ (r : Reading). r.offset) is ∙ sym at)
     (stops_whatever text more has.taken new (reads has.taken has.read)
-        (ap (λ (r : Reading). r.is_broken) is))
+    (ap (λ (r : Reading). r.is_broken) is))
 
 -- nothing is due still
 pub none_last : (line : List ℕ) → line ≡ [] → line ++ [] ≡ []

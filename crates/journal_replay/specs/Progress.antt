@@ -47,7 +47,7 @@ Gave first now bytes whole last = last ≡ []
 abbrev pub Breaks : Bool → Verdict → Replayer → Replayer → List ℕ → List ℕ → List ℕ → Type 0
 Breaks more verdicts.NotAJournal first now bytes whole last =
     (whole ≡ []) × ((offset : ℕ) × ((behind : List ℕ) → StopsAt (bytes ++ behind) offset)
-      × (last ≡ stop_line offset))
+    × (last ≡ stop_line offset))
 Breaks more verdicts.Legal first now bytes whole last = ⊥
 Breaks more verdicts.Illegal first now bytes whole last = ⊥
 

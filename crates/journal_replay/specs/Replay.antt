@@ -73,7 +73,7 @@ IsDue verdicts.Legal source' bytes most line =
 IsDue verdicts.Illegal source' bytes most line =
     IsAll source' bytes most
     × ((place : ℕ) × (why : Why) × IsJudged bytes (Illegal place why)
-      × (line ≡ judgement_line (Illegal place why)))
+    × (line ≡ judgement_line (Illegal place why)))
 IsDue verdicts.NotAJournal source' bytes most line =
     (offset : ℕ) × InputStopsAt source' bytes most offset × (line ≡ stop_line offset)
 

@@ -24,7 +24,7 @@ pub fn run_replay<S: Source, T: Sink>(alloc: Global, most: u64, source: &mut S, 
     // There is one ending, whose number is the status, and one replay that ended so.
     ensures replay { (end : End) × (result ≡ status_number end)
         × IsReplay most (S.told source.old) (S.told source.new)
-            (T.taken sink.old) (T.taken sink.new) end }
+        (T.taken sink.old) (T.taken sink.new) end }
     ensures read { result ≡ 4 → Rose (S.faults source.old) (S.faults source.new) }
     ensures write { result ≡ 5 → Rose (T.faults sink.old) (T.faults sink.new) }
 

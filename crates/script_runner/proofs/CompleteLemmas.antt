@@ -25,8 +25,12 @@ nothing_front (x ∷ a) b none = cc
 -- a front with a line feed in it is not empty
 some_front : (text behind more : List ℕ) → (text ++ 10 ∷ behind) ++ more ≡ [] → ⊥
 some_front text behind more none =
-    omega (arith, length-append text (10 ∷ behind), ap length
-        (nothing_front (text ++ 10 ∷ behind) more none))
+    omega (
+      arith,
+      length-append text (10 ∷ behind),
+      ap length
+          (nothing_front (text ++ 10 ∷ behind) more none),
+    )
 
 -- a front without a line feed is no longer than the text before the first one
 front_short : (rest more text tail : List ℕ) → rest ++ more ≡ text ++ 10 ∷ tail
@@ -36,7 +40,7 @@ front_short (r ∷ rest) more [] tail e less none =
     All-head (λ b. b ≢ 10) r rest none (heads r 10 (rest ++ more) tail e).0
 front_short (r ∷ rest) more (t ∷ text) tail e less none =
     front_short rest more text tail (heads r t (rest ++ more) (text ++ 10 ∷ tail) e).1
-        (omega (arith, less)) (All-tail (λ b. b ≢ 10) r rest none)
+    (omega (arith, less)) (All-tail (λ b. b ≢ 10) r rest none)
 
 -- ---- what is left of a script behind lines that it begins with
 
@@ -53,7 +57,7 @@ record Left (world : World) (bytes : List ℕ) : Type 0 where
 
 cons_text : (line : Line) (script : List Line) (rest more : List ℕ)
     → (script_text (line ∷ script) ++ rest) ++ more ≡ line_text
-        line ++ 10 ∷ ((script_text script ++ rest) ++ more)
+    line ++ 10 ∷ ((script_text script ++ rest) ++ more)
 cons_text line script rest more =
     ap (λ t. t ++ more) (append_assoc (line_text line) (10 ∷ script_text script) rest)
     ∙ append_assoc (line_text line) (10 ∷ (script_text script ++ rest)) more
@@ -61,37 +65,41 @@ cons_text line script rest more =
 left_of : (done all : List Line) (rest more : List ℕ) (a b world last : World)
     (output others : List ℕ)
     → (script_text done ++ rest) ++ more ≡ script_text all → AreLines done → AreLines all
-        → Leads a done world output → Leads b all last others → names a ≡ names b
+    → Leads a done world output → Leads b all last others → names a ≡ names b
     → Left world (rest ++ more)
 left_of [] all rest more a b world last output others is done_lines all_lines leads follow same =
     record {
-  script = all;
-  from = b;
-  to = last;
-  output = others;
-  spelled = is;
-  are_lines = all_lines;
-  leads = follow;
-  same = ap names leads.0 ∙ same;
-}
+      script = all;
+      from = b;
+      to = last;
+      output = others;
+      spelled = is;
+      are_lines = all_lines;
+      leads = follow;
+      same = ap names leads.0 ∙ same;
+    }
 left_of (l ∷ done) [] rest more a b world last output others is done_lines all_lines leads follow
     same =
-    absurd (omega (arith, ap length (sym (cons_text l done rest more)
-        ∙ is), length-append (line_text l) (10 ∷ ((script_text done ++ rest) ++ more))))
+    absurd (omega (
+      arith,
+      ap length (sym (cons_text l done rest more)
+          ∙ is),
+      length-append (line_text l) (10 ∷ ((script_text done ++ rest) ++ more)),
+    ))
 left_of (l ∷ done) (n ∷ all) rest more a b world last output others is done_lines all_lines leads
     follow same =
     let parts =
-        split_one 10 (line_text l) ((script_text done ++ rest) ++ more) (line_text n)
-            (script_text all) (line_feed_nowhere (line_text l) l done_lines.0)
-                (line_feed_nowhere (line_text n) n all_lines.0) (sym (cons_text l done rest more)
-                    ∙ is) in
+    split_one 10 (line_text l) ((script_text done ++ rest) ++ more) (line_text n)
+    (script_text all) (line_feed_nowhere (line_text l) l done_lines.0)
+    (line_feed_nowhere (line_text n) n all_lines.0) (sym (cons_text l done rest more)
+    ∙ is) in
     let one : l ≡ n =
-        one_line_each (line_text n) l n (subst (λ t. IsLine t l) parts.0 done_lines.0)
-            all_lines.0 in
+    one_line_each (line_text n) l n (subst (λ t. IsLine t l) parts.0 done_lines.0)
+    all_lines.0 in
     left_of done all rest more leads.0 follow.0 world last leads.2 follow.2 parts.1 done_lines.1
-        all_lines.1 leads.4 follow.4
+    all_lines.1 leads.4 follow.4
     (names-step a l leads.0 leads.1 leads.3 ∙ ap (λ ns. names_after ns l) same
-        ∙ ap (names_after (names b)) one ∙ sym (names-step b n follow.0 follow.1 follow.3))
+    ∙ ap (names_after (names b)) one ∙ sym (names-step b n follow.0 follow.1 follow.3))
 
 -- a rest whose first line is wrong begins no lines that could follow
 wrong_left : (world from to : World) (rest more : List ℕ) (script : List Line) (output : List ℕ)
@@ -101,13 +109,13 @@ wrong_left world from to rest more [] output wrong is lines leads same =
     some_front wrong.text wrong.behind more (ap (λ t. t ++ more) (sym wrong.first.joined) ∙ is)
 wrong_left world from to rest more (line ∷ script) output wrong is lines leads same =
     let parts =
-        split_one 10 wrong.text (wrong.behind ++ more) (line_text line) (script_text script)
-            wrong.first.first (line_feed_nowhere (line_text line) line lines.0)
+    split_one 10 wrong.text (wrong.behind ++ more) (line_text line) (script_text script)
+    wrong.first.first (line_feed_nowhere (line_text line) line lines.0)
     (sym (append_assoc wrong.text (10 ∷ wrong.behind) more)
-        ∙ ap (λ t. t ++ more) (sym wrong.first.joined) ∙ is) in
+    ∙ ap (λ t. t ++ more) (sym wrong.first.joined) ∙ is) in
     wrong.none line (subst (λ t. IsLine t line) (sym parts.0) lines.0)
-        (MayStandNext-same from world line (sym same)
-            (MayStandNext-of_step from line leads.0 leads.1 leads.3))
+    (MayStandNext-same from world line (sym same)
+    (MayStandNext-of_step from line leads.0 leads.1 leads.3))
 
 -- nor does one that is longer than a line, or that nothing follows
 unfinished_left : (new : List ℕ × List ℕ) (rest : List ℕ) (script : List Line)
@@ -117,13 +125,13 @@ unfinished_left new rest [] (unseen, inl long) is lines =
 unfinished_left new rest [] (unseen, inr end) is lines = end.0 (nothing_front rest new.1 is)
 unfinished_left new rest (line ∷ script) (unseen, inl long) is lines =
     front_short rest new.1 (line_text line) (script_text script) is
-        (omega (arith, long, lines.0.short)) unseen
+    (omega (arith, long, lines.0.short)) unseen
 unfinished_left new rest (line ∷ script) (unseen, inr end) is lines =
     let whole : rest ≡ line_text line ++ 10 ∷ script_text script =
-        sym (append-nil rest) ∙ ap (λ m. rest ++ m) (sym end.1) ∙ is in
+    sym (append-nil rest) ∙ ap (λ m. rest ++ m) (sym end.1) ∙ is in
     front_short rest new.1 (line_text line) (script_text script) is
     (omega (arith, ap length whole, length-append (line_text line) (10 ∷ script_text script)))
-        unseen
+    unseen
 
 -- ---- runs
 
@@ -131,16 +139,16 @@ module _ (CanCount : ℕ → Type 0) (most : ℕ) (sink sink' : Option (List ℕ
     → Option Item)) (faults : ℕ) where
   left_of_run : (old new : List ℕ
       × List ℕ) (end : End) (run : IsDrive CanCount most (flow (Some old) (Some new) sink sink')
-          told faults end) → IsScript old.1 → Left run.world (run.rest ++ new.1)
+      told faults end) → IsScript old.1 → Left run.world (run.rest ++ new.1)
   left_of_run old new end run script =
       left_of run.script script.0 run.rest new.1 empty_world empty_world run.world script.1
-          run.output script.2
+      run.output script.2
       (ap (λ t. t ++ new.1) (sym run.spelled) ∙ sym run.given.1
-          ∙ script.3) run.lines script.4 run.run script.5 refl
+      ∙ script.3) run.lines script.4 run.run script.5 refl
 
   broken_script : (source source' : Option (List ℕ × List ℕ))
       → IsDrive CanCount most (flow source source' sink sink') told faults
-          (ends.Over verdicts.Broken) → TellsScript source → ⊥
+      (ends.Over verdicts.Broken) → TellsScript source → ⊥
   broken_script None source' run script = script
   broken_script (Some old) None run script = absurd run.given
   broken_script (Some old) (Some new) run script =
@@ -153,7 +161,7 @@ module _ (CanCount : ℕ → Type 0) (most : ℕ) (sink sink' : Option (List ℕ
 
   long_input : (source source' : Option (List ℕ × List ℕ))
       → IsDrive CanCount most (flow source source' sink sink') told faults ends.Long
-          → TellsFewer source most → ⊥
+      → TellsFewer source most → ⊥
   long_input None source' run fewer = fewer
   long_input (Some old) None run fewer = absurd run.given
   long_input (Some old) (Some new) run fewer =
@@ -162,7 +170,7 @@ module _ (CanCount : ℕ → Type 0) (most : ℕ) (sink sink' : Option (List ℕ
   -- status 3 is given to no script
   pub no_script : (source source' : Option (List ℕ × List ℕ)) (end : End)
       → IsDrive CanCount most (flow source source' sink sink') told faults end
-          → status_number end ≡ 3 → TellsScript source → ⊥
+      → status_number end ≡ 3 → TellsScript source → ⊥
   no_script source source' (ends.Over verdicts.Whole) run is script = omega (arith, is)
   no_script source source' (ends.Over verdicts.Broken) run is script =
       broken_script source source' run script
@@ -173,9 +181,9 @@ module _ (CanCount : ℕ → Type 0) (most : ℕ) (sink sink' : Option (List ℕ
 
   pub complete_run : (source source' : Option (List ℕ × List ℕ)) (end : End)
       → IsDrive CanCount most (flow source source' sink sink') told faults end → TellsScript source
-          → TellsFewer source most
+      → TellsFewer source most
       → (end ≡ ends.ReadFault → ⊥) → (end ≡ ends.WriteFault → ⊥) → (status_number end ≡ 0)
-          ⊎ (status_number end ≡ 6)
+      ⊎ (status_number end ≡ 6)
   complete_run source source' (ends.Over verdicts.Whole) run script fewer read write = inl refl
   complete_run source source' (ends.Over verdicts.Broken) run script fewer read write =
       absurd (broken_script source source' run script)

@@ -27,13 +27,20 @@ use Rattle.script_runner.proofs.LineLemmas.{script_text-push, line_of, AreLines-
 module _ {K : Type 0} (G : keepers.Ghosts K) where
   pub HasRun-start : (held : List ℕ) (script : Script K) → held ≡ []
       → Stands G.can_count G.told G.count script empty_world → HasRun G script [] held []
-  HasRun-start held script none stands = record { lines = []; world = empty_world; spelled =
-      sym none; are_lines = tt; run = (refl, refl); stands = stands }
+  HasRun-start held script none stands = record {
+    lines = [];
+    world = empty_world;
+    spelled =
+        sym none;
+    are_lines = tt;
+    run = (refl, refl);
+    stands = stands;
+  }
 
   -- a piece more
   pub HasRun-fed : (script : Script K) (bytes held held' piece due : List ℕ)
       → HasRun G script bytes held due → held' ≡ held ++ piece
-          → HasRun G script (bytes ++ piece) held' due
+      → HasRun G script (bytes ++ piece) held' due
   HasRun-fed script bytes held held' piece due run is = record {
     lines = run.lines;
     world = run.world;
@@ -65,14 +72,14 @@ module _ {K : Type 0} (G : keepers.Ghosts K) where
       → SplitsAt 10 held (take len shown) held'
   split_of old held shown held' len same shows is split =
       subst (SplitsAt 10 held (take len shown)) (sym is)
-          (subst (λ s. SplitsAt 10 held (take len s) (drop (len + 1) held)) (sym shows)
+      (subst (λ s. SplitsAt 10 held (take len s) (drop (len + 1) held)) (sym shows)
       (subst (λ (h : List ℕ). SplitsAt 10 h (take len h) (drop (len + 1) h)) (sym same) split))
 
   module _ (script script' : Script K) (bytes held text held' due : List ℕ)
       (run : HasRun G script bytes held due) (split : SplitsAt 10 held text held') where
     took_last : (Prints : List ℕ → Type 0)
         → (took : WorldTakesText G.can_count G.told G.count script' run.world text Prints)
-            → HasRunLast G script' bytes held' due took.takes.printed
+        → HasRunLast G script' bytes held' due took.takes.printed
     took_last Prints took = record {
       earlier = run.lines;
       last = took.line;
@@ -80,9 +87,9 @@ module _ {K : Type 0} (G : keepers.Ghosts K) where
       world = took.takes.world';
       spelled =
           run.spelled
-              ∙ ap (λ h. script_text run.lines ++ h) (split.joined
-                  ∙ ap (λ t. t ++ 10 ∷ held') (sym took.is_line.spelled))
-                      ∙ sym (script_text-push run.lines took.line held');
+          ∙ ap (λ h. script_text run.lines ++ h) (split.joined
+          ∙ ap (λ t. t ++ 10 ∷ held') (sym took.is_line.spelled))
+          ∙ sym (script_text-push run.lines took.line held');
       are_lines =
           AreLines-push run.lines took.line run.are_lines (line_of text took.line took.is_line);
       run = run.run;
@@ -93,8 +100,8 @@ module _ {K : Type 0} (G : keepers.Ghosts K) where
     -- a line was run, and its print was appended to nothing
     pub line_done : (out out' : List ℕ) → out ≡ []
         → ((world : World) → Stands G.can_count G.told G.count script world
-            → WorldTakesText G.can_count G.told G.count script' world text (λ printed.
-                out' ≡ out ++ printed))
+        → WorldTakesText G.can_count G.told G.count script' world text (λ printed.
+        out' ≡ out ++ printed))
         → HasRunLast G script' bytes held' due (out' ++ [])
     line_done out out' empty takes =
         let took = takes run.world run.stands in
@@ -105,30 +112,46 @@ module _ {K : Type 0} (G : keepers.Ghosts K) where
     -- it is none that may follow
     pub line_wrong : script' ≡ script
         → ((world : World) (line : Line) → Stands G.can_count G.told G.count script world
-            → IsLine text line → MayStandNext world line → ⊥)
+        → IsLine text line → MayStandNext world line → ⊥)
         → (ran : HasRun G script' bytes held due) × BeginsWrong ran.world held
     line_wrong same none =
-        subst (λ s. (ran : HasRun G s bytes held due) × BeginsWrong ran.world held) (sym same)
-        (run, record { text = text; behind = held'; first = split; none =
-            λ line is may. none run.world line run.stands is may })
+        subst (λ s. (ran : HasRun G s bytes held due) × BeginsWrong ran.world held) (sym same) (
+          run,
+          record {
+            text = text;
+            behind = held';
+            first = split;
+            none =
+                λ line is may. none run.world line run.stands is may;
+          },
+        )
 
     -- memory was wanting
     pub line_lacks : ((world : World) → Stands G.can_count G.told G.count script world
         → Stands G.can_count G.told G.count script' world
-            ⊎ WorldTakesText G.can_count G.told G.count script' world text (λ printed. ⊤))
+        ⊎ WorldTakesText G.can_count G.told G.count script' world text (λ printed. ⊤))
         → (rest : List ℕ)
-            × (HasRun G script' bytes rest due
-                ⊎ ((printed : List ℕ) × HasRunLast G script' bytes rest due printed))
+        × (HasRun G script' bytes rest due
+        ⊎ ((printed : List ℕ) × HasRunLast G script' bytes rest due printed))
     line_lacks either = of (either run.world run.stands)
       where
         of : Stands G.can_count G.told G.count script' run.world
             ⊎ WorldTakesText G.can_count G.told G.count script' run.world text (λ printed. ⊤)
             → (rest : List ℕ)
-                × (HasRun G script' bytes rest due
-                    ⊎ ((printed : List ℕ) × HasRunLast G script' bytes rest due printed))
-        of (inl stays) =
-            (held, inl (record { lines = run.lines; world = run.world; spelled =
-                run.spelled; are_lines = run.are_lines; run = run.run; stands = stays }))
+            × (HasRun G script' bytes rest due
+            ⊎ ((printed : List ℕ) × HasRunLast G script' bytes rest due printed))
+        of (inl stays) = (
+          held,
+          inl (record {
+            lines = run.lines;
+            world = run.world;
+            spelled =
+                run.spelled;
+            are_lines = run.are_lines;
+            run = run.run;
+            stands = stays;
+          }),
+        )
         of (inr took) = (held', inr (took.takes.printed, took_last (λ printed. ⊤) took))
 
   -- ---- a run of the consumer
@@ -163,7 +186,7 @@ module _ {K : Type 0} (G : keepers.Ghosts K) where
     -- the floor is kept at each ending
     over_keeps : (verdict : Verdict) (bytes whole last : List ℕ)
         → IsOver ghosts most first now source' bytes verdict whole last → (last ≡ [])
-            × KeepsFloor G first now
+        × KeepsFloor G first now
     over_keeps verdicts.Whole bytes whole last (inl (closes, end, some)) = (closes.0, closes.1)
     over_keeps verdicts.Broken bytes whole last (inl (closes, end, some)) = (closes.0, closes.1)
     over_keeps verdicts.Whole bytes whole last (inr (more, breaks, room)) = absurd breaks
@@ -171,7 +194,7 @@ module _ {K : Type 0} (G : keepers.Ghosts K) where
 
     part_keeps : (bytes whole last : List ℕ)
         → ((verdict : Verdict) × IsOver ghosts most first now source' bytes verdict whole last)
-            ⊎ Gave G first now bytes whole last → KeepsFloor G first now
+        ⊎ Gave G first now bytes whole last → KeepsFloor G first now
     part_keeps bytes whole last (inl (verdict, over)) = (over_keeps verdict bytes whole last over).1
     part_keeps bytes whole last (inr gave) = gave.1
 
@@ -186,11 +209,11 @@ module _ {K : Type 0} (G : keepers.Ghosts K) where
 
     module _ (keeper : K)
         (history_stands : (world : World) → Stands G.can_count G.told G.count now.script world
-            → StandsFor nothing 0 (history world.turns) (G.told keeper) (G.count keeper))
+        → StandsFor nothing 0 (history world.turns) (G.told keeper) (G.count keeper))
         (lawful : (world : World) → Stands G.can_count G.told G.count now.script world
-            → IsLawfulWorld world)
+        → IsLawfulWorld world)
         (forced : (world : World) → Stands G.can_count G.told G.count now.script world
-            → IfTold (G.told keeper) (ForcesOldLocks world))
+        → IfTold (G.told keeper) (ForcesOldLocks world))
       where
         -- where a run stood that ended here
         abbrev reached : List Line → World → List ℕ → List ℕ → ℕ → Reached
@@ -208,7 +231,7 @@ module _ {K : Type 0} (G : keepers.Ghosts K) where
             end) (rest output : List ℕ) (ran : HasRun G now.script ended.taken rest output)
             → EndsAs end (reached ran.lines ran.world output rest (length ended.taken))
             → IsDrive G.can_count most (flow source source' sink sink') (G.told keeper)
-                (G.count keeper) end
+            (G.count keeper) end
         by_run end ended rest output ran how = record {
           bytes = ended.taken;
           script = ran.lines;
@@ -229,7 +252,7 @@ module _ {K : Type 0} (G : keepers.Ghosts K) where
 
         wrote_in_part : (bytes rest whole last : List ℕ)
             (ran : HasRunLast G now.script bytes rest whole last) (n : ℕ) → n ≤ length last
-                → Takes sink sink' (whole ++ take n last)
+            → Takes sink sink' (whole ++ take n last)
             → WroteInPart (ran.earlier ++ ran.last ∷ []) ran.world (whole ++ last) n sink sink'
         wrote_in_part bytes rest whole last ran n within wrote = record {
           earlier = ran.earlier;
@@ -247,69 +270,72 @@ module _ {K : Type 0} (G : keepers.Ghosts K) where
 
         over_drive : (verdict : Verdict)
             (ended : Ended ghosts most first now (flow source source' sink sink')
-                (ends.Over verdict)) (whole last : List ℕ)
+            (ends.Over verdict)) (whole last : List ℕ)
             → IsOver ghosts most first now source' ended.taken verdict whole last
-                → Takes sink sink' (whole ++ last)
+            → Takes sink sink' (whole ++ last)
             → IsDrive G.can_count most (flow source source' sink sink') (G.told keeper)
-                (G.count keeper) (ends.Over verdict)
+            (G.count keeper) (ends.Over verdict)
         over_drive verdicts.Whole ended whole last (inl (closes, end, some)) wrote =
             by_run (ends.Over verdicts.Whole) ended now.held whole closes.2
-                (end, closes.3, some, whole_only sink sink' whole last closes.0 wrote)
+            (end, closes.3, some, whole_only sink sink' whole last closes.0 wrote)
         over_drive verdicts.Broken ended whole last (inl (closes, end, some)) wrote =
-            by_run (ends.Over verdicts.Broken) ended now.held whole closes.2
-                (inr ((closes.3, inr (closes.4, end)), some), whole_only sink sink' whole last
-                    closes.0 wrote)
+            by_run (ends.Over verdicts.Broken) ended now.held whole closes.2 (
+              inr ((closes.3, inr (closes.4, end)), some),
+              whole_only sink sink' whole last
+                  closes.0 wrote,
+            )
         over_drive verdicts.Whole ended whole last (inr (more, breaks, room)) wrote = absurd breaks
         over_drive verdicts.Broken ended whole last (inr (more, breaks, room)) wrote = of breaks.2.1
           where
             of : BeginsWrong breaks.2.0.world now.held
                 ⊎ (HasNo 10 now.held × (most_line < length now.held) × IsTrue more)
                 → IsDrive G.can_count most (flow source source' sink sink') (G.told keeper)
-                    (G.count keeper) (ends.Over verdicts.Broken)
+                (G.count keeper) (ends.Over verdicts.Broken)
             of (inl wrong) =
                 by_run (ends.Over verdicts.Broken) ended now.held whole breaks.2.0
-                    (inl wrong, whole_only sink sink' whole last breaks.0 wrote)
+                (inl wrong, whole_only sink sink' whole last breaks.0 wrote)
             of (inr (unseen, long, is)) =
-                by_run (ends.Over verdicts.Broken) ended now.held whole breaks.2.0
-                (inr ((unseen, inl long), room_more more (length ended.taken) most is room),
-                    whole_only sink sink' whole last breaks.0 wrote)
+                by_run (ends.Over verdicts.Broken) ended now.held whole breaks.2.0 (
+                  inr ((unseen, inl long), room_more more (length ended.taken) most is room),
+                  whole_only sink sink' whole last breaks.0 wrote,
+                )
 
         part_drive : (ended : Ended ghosts most first now (flow source source' sink sink')
             ends.WriteFault) (whole last : List ℕ) (n : ℕ)
             → ((verdict : Verdict)
-                × IsOver ghosts most first now source' ended.taken verdict whole last)
-                    ⊎ Gave G first now ended.taken whole last
+            × IsOver ghosts most first now source' ended.taken verdict whole last)
+            ⊎ Gave G first now ended.taken whole last
             → 0 < length last → n ≤ length last → Takes sink sink' (whole ++ take n last)
-                → IsDrive G.can_count most (flow source source' sink sink') (G.told keeper)
-                    (G.count keeper) ends.WriteFault
+            → IsDrive G.can_count most (flow source source' sink sink') (G.told keeper)
+            (G.count keeper) ends.WriteFault
         unfolding HasRun-last
         part_drive ended whole last n (inl (verdict, over)) some within wrote =
             absurd (none_long last (over_keeps verdict ended.taken whole last over).0 some)
         part_drive ended whole last n (inr gave) some within wrote =
             by_run ends.WriteFault ended now.held (whole ++ last)
-                (HasRun-last now.script ended.taken now.held whole last gave.0)
+            (HasRun-last now.script ended.taken now.held whole last gave.0)
             (n, wrote_in_part ended.taken now.held whole last gave.0 n within wrote)
 
         lacks_drive : (ended : Ended ghosts most first now (flow source source' sink sink')
             ends.NoMemory) (due rest : List ℕ)
             → HasRun G now.script ended.taken rest due
-                ⊎ ((printed : List ℕ) × HasRunLast G now.script ended.taken rest due printed)
-                    → Takes sink sink' due
+            ⊎ ((printed : List ℕ) × HasRunLast G now.script ended.taken rest due printed)
+            → Takes sink sink' due
             → IsDrive G.can_count most (flow source source' sink sink') (G.told keeper)
-                (G.count keeper) ends.NoMemory
+            (G.count keeper) ends.NoMemory
         unfolding HasRun-last
         lacks_drive ended due rest (inl ran) wrote =
             by_run ends.NoMemory ended rest due ran (inl wrote)
         lacks_drive ended due rest (inr (printed, ran)) wrote =
             by_run ends.NoMemory ended rest (due ++ printed)
-                (HasRun-last now.script ended.taken rest due printed ran)
+            (HasRun-last now.script ended.taken rest due printed ran)
             (inr (wrote_in_part ended.taken rest due printed ran 0 (omega arith)
-                (subst (Takes sink sink') (sym (append-nil due)) wrote)))
+            (subst (Takes sink sink') (sym (append-nil due)) wrote)))
 
         pub drive_of : (end : End)
             → Ended ghosts most first now (flow source source' sink sink') end
-                → IsDrive G.can_count most (flow source source' sink sink') (G.told keeper)
-                    (G.count keeper) end
+            → IsDrive G.can_count most (flow source source' sink sink') (G.told keeper)
+            (G.count keeper) end
         drive_of (ends.Over verdict) ended =
             over_drive verdict ended ended.ends.0 ended.ends.1 ended.ends.2 ended.ends.3
         drive_of ends.ReadFault ended =
@@ -317,7 +343,7 @@ module _ {K : Type 0} (G : keepers.Ghosts K) where
             by_run ends.ReadFault ended now.held due went.0 (waits.0, waits.1 refl, some, wrote)
         drive_of ends.WriteFault ended =
             part_drive ended ended.ends.0 ended.ends.1 ended.ends.2 ended.ends.3 ended.ends.4
-                ended.ends.5 ended.ends.6
+            ended.ends.5 ended.ends.6
         drive_of ends.NoMemory ended =
             lacks_drive ended ended.ends.0 ended.ends.1.1.0 ended.ends.1.1.1 ended.ends.2
         drive_of ends.Long ended =

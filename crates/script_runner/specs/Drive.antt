@@ -87,7 +87,7 @@ abbrev pub EndsAs : End → Reached → Type 0
 EndsAs (Over Whole) r = IsAtEnd r.flow.source' × (r.rest ≡ []) × (r.count < r.most) × WroteAll r
 EndsAs (Over Broken) r =
     (BeginsWrong r.world r.rest ⊎ (IsUnfinished r.flow.source' r.rest × (r.count < r.most)))
-        × WroteAll r
+    × WroteAll r
 EndsAs ReadFault r = HasNo 10 r.rest × (length r.rest ≤ most_line) × (r.count < r.most) × WroteAll r
 EndsAs WriteFault r = (n : ℕ) × WroteLast r n
 EndsAs NoMemory r = WroteAll r ⊎ WroteLast r 0

@@ -57,8 +57,8 @@ module _ {K : Type 0} (G : Ghosts K) where
   Breaks more Whole first now bytes whole last = ⊥
   Breaks more Broken first now bytes whole last = (last ≡ []) × KeepsFloor first now
       × ((run : HasRun now.script bytes now.held whole)
-        × (BeginsWrong run.world now.held
-          ⊎ (HasNo 10 now.held × (most_line < length now.held) × IsTrue more)))
+      × (BeginsWrong run.world now.held
+      ⊎ (HasNo 10 now.held × (most_line < length now.held) × IsTrue more)))
 
   -- the input ended behind a line, or inside one
   abbrev pub Closes : Verdict → Driver K → Driver K → List ℕ → List ℕ → List ℕ → Type 0
@@ -71,4 +71,4 @@ module _ {K : Type 0} (G : Ghosts K) where
   abbrev pub Lacks : Driver K → Driver K → List ℕ → List ℕ → Type 0
   Lacks first now bytes due = KeepsFloor first now
       × ((rest : List ℕ) × (HasRun now.script bytes rest due
-        ⊎ ((printed : List ℕ) × HasRunLast now.script bytes rest due printed)))
+      ⊎ ((printed : List ℕ) × HasRunLast now.script bytes rest due printed)))

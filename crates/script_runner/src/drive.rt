@@ -35,8 +35,8 @@ pub fn run_drive<S: Source, T: Sink, K: Keeper>(
     // There is one ending, whose number is the status, and one run that ended so.
     ensures ran { (end : End) × (result.status ≡ status_number end)
         × IsDrive K.can_count most
-            (flow (S.told source.old) (S.told source.new) (T.taken sink.old) (T.taken sink.new))
-            (K.told result.keeper) (K.count result.keeper) end }
+        (flow (S.told source.old) (S.told source.new) (T.taken sink.old) (T.taken sink.new))
+        (K.told result.keeper) (K.count result.keeper) end }
     ensures read { result.status ≡ 4 → Rose (S.faults source.old) (S.faults source.new) }
     ensures write { result.status ≡ 5 → Rose (T.faults sink.old) (T.faults sink.new) }
 
@@ -46,7 +46,7 @@ pub fn run_drive<S: Source, T: Sink, K: Keeper>(
     ensures complete { TellsScript (S.told source.old) → TellsFewer (S.told source.old) most
         → (Rose (S.faults source.old) (S.faults source.new) → ⊥)
         → (Rose (T.faults sink.old) (T.faults sink.new) → ⊥) → (result.status ≡ 0)
-            ⊎ (result.status ≡ 6) }
+        ⊎ (result.status ≡ 6) }
     ensures floor { K.floor result.keeper ≡ K.floor keeper }
 {
     let mut driver = Driver {

@@ -54,7 +54,10 @@ impl<K: Keeper> Consumer for Driver<K> {
             }
             return Step::More;
         };
-        match self.script.line(&self.held.as_slice()[..len], &mut self.print) {
+        match self
+            .script
+            .line(&self.held.as_slice()[..len], &mut self.print)
+        {
             LineEnd::Done => {
                 self.held.take_line(len);
                 Step::Did

@@ -18,16 +18,16 @@ module _ {V : Type 0} (Is : V → List ℕ → List ℕ → Type 0) (Gave : List
     (Lacks : List ℕ → Type 0) (start sink sink' : Option (List ℕ)) (due last : List ℕ)
     (taken : Takes start sink due)
   where
-  -- all that the consumer gave at its end was written
-  pub stops_over : (over : V) → Is over due last → Takes sink sink' last
-      → StopsAs Is Gave Lacks (ends.Over over) start sink'
-  stops_over over is wrote = (due, last, is, Takes-trans start sink sink' due last taken wrote)
+    -- all that the consumer gave at its end was written
+    pub stops_over : (over : V) → Is over due last → Takes sink sink' last
+        → StopsAs Is Gave Lacks (ends.Over over) start sink'
+    stops_over over is wrote = (due, last, is, Takes-trans start sink sink' due last taken wrote)
 
-  -- or a front of that
-  pub stops_in_part : ((over : V) × Is over due last) ⊎ Gave due last → 0 < length last
-      → TakesFront sink sink' last → StopsAs Is Gave Lacks ends.WriteFault start sink'
-  stops_in_part is some (n, le, wrote) =
-      (due, last, n, is, some, le, Takes-trans start sink sink' due (take n last) taken wrote)
+    -- or a front of that
+    pub stops_in_part : ((over : V) × Is over due last) ⊎ Gave due last → 0 < length last
+        → TakesFront sink sink' last → StopsAs Is Gave Lacks ends.WriteFault start sink'
+    stops_in_part is some (n, le, wrote) =
+        (due, last, n, is, some, le, Takes-trans start sink sink' due (take n last) taken wrote)
 
 -- with other relations that follow
 pub stops_as : {V : Type 0} (Is Is' : V → List ℕ → List ℕ → Type 0) (Gave : List ℕ → List ℕ
@@ -81,8 +81,8 @@ module _ {C V : Type 0} (G : Ghosts C V) (most : ℕ) (first : C) where
   -- a stop is an ending
   ends_of : (now : C) (end : End V) (f : Flow) (taken : List ℕ)
       → StopsAs (IsOver G most first now f.source' taken) (G.gave first now taken)
-          (G.lacks first now taken)
-          end f.sink f.sink'
+      (G.lacks first now taken)
+      end f.sink f.sink'
       → EndsAs G most first now end f taken
   ends_of now (ends.Over over) f taken stops = stops
   ends_of now ends.WriteFault f taken stops = stops
@@ -92,7 +92,7 @@ module _ {C V : Type 0} (G : Ghosts C V) (most : ℕ) (first : C) where
 
   pub Running-start : (source : Option (List ℕ × List ℕ)) (sink : Option (List ℕ))
       → G.went first first [] []
-          → Running G.went most first first (flow source source sink sink) most
+      → Running G.went most first first (flow source source sink sink) most
   Running-start source sink begun = record {
     taken = [];
     due = [];
@@ -136,10 +136,10 @@ module _ {C V : Type 0} (G : Ghosts C V) (most : ℕ) (first : C) where
     -- the consumer stopped behind the bytes that were taken
     pub ended-stopped : (now' : C) (sink'' : Option (List ℕ)) (end : End V)
         → ((start : Option (List ℕ))
-            → Follows G.went now (λ first taken due. Takes start f.sink' due
-            → StopsAs (λ over. G.breaks (nat_lt 0 left) over first now' taken)
-                (G.gave first now' taken)
-                (G.lacks first now' taken) end start sink''))
+        → Follows G.went now (λ first taken due. Takes start f.sink' due
+        → StopsAs (λ over. G.breaks (nat_lt 0 left) over first now' taken)
+        (G.gave first now' taken)
+        (G.lacks first now' taken) end start sink''))
         → Ended G most first now' (record f { sink' = sink'' }) end
     ended-stopped now' sink'' end stops = record {
       taken = run.taken;
@@ -166,9 +166,9 @@ module _ {C V : Type 0} (G : Ghosts C V) (most : ℕ) (first : C) where
     pub ended-closed : (now' : C) (source'' : Option (List ℕ × List ℕ)) (sink'' : Option (List ℕ))
         (end : End V) → 0 < left → Gives f.source' source'' [] → IsAtEnd source''
         → ((start : Option (List ℕ))
-            → Follows G.went now (λ first taken due. Takes start f.sink' due
-            → StopsAs (λ over. G.closes over first now' taken) (G.gave first now' taken)
-                (G.lacks first now' taken) end start sink''))
+        → Follows G.went now (λ first taken due. Takes start f.sink' due
+        → StopsAs (λ over. G.closes over first now' taken) (G.gave first now' taken)
+        (G.lacks first now' taken) end start sink''))
         → Ended G most first now' (record f { source' = source''; sink' = sink'' }) end
     ended-closed now' source'' sink'' end some gives at_end stops = record {
       taken = run.taken;
@@ -221,11 +221,11 @@ module _ {C V : Type 0} (G : Ghosts C V) (most : ℕ) (first now : C) where
       is : IsOver G most first now f.source' run.taken over run.ends.0 run.ends.1
           → G.closes over first now old.1 run.ends.0 run.ends.1
           ⊎ ((front : List ℕ) × (behind : List ℕ) × (more : Bool) × (old.1 ≡ front ++ behind)
-            × G.breaks more over first now front run.ends.0 run.ends.1)
+          × G.breaks more over first now front run.ends.0 run.ends.1)
       is (inl (closes, at_end, some)) =
           inl (subst (λ t. G.closes over first now t run.ends.0 run.ends.1)
           (sym (given.1 ∙ ap (λ t. run.taken ++ t) (subst IsAtEnd is_new at_end)
-              ∙ append-nil run.taken))
+          ∙ append-nil run.taken))
           closes)
       is (inr (more, breaks, room)) = inr (run.taken, new.1, more, given.1, breaks)
   complete_told old new f ends.NoMemory is_old is_new run read write fewer = tt
@@ -233,12 +233,12 @@ module _ {C V : Type 0} (G : Ghosts C V) (most : ℕ) (first now : C) where
   complete_told old new f ends.WriteFault is_old is_new run read write fewer = absurd (write refl)
   complete_told old new f ends.Long is_old is_new run read write fewer =
       let given : Gives (Some old) (Some new) run.taken =
-          subst (λ s. Gives (Some old) s run.taken) is_new
-          (subst (λ s. Gives s f.source' run.taken) is_old run.given) in
+      subst (λ s. Gives (Some old) s run.taken) is_new
+      (subst (λ s. Gives s f.source' run.taken) is_old run.given) in
       let all = ap length given.1 in
       let long = run.ends.3 in
       absurd (let wrong : ⊥ =
-          omega (arith, all, length-append run.taken new.1, long, fewer) in wrong)
+      omega (arith, all, length-append run.taken new.1, long, fewer) in wrong)
 
   pub complete_of : (source source' : Option (List ℕ × List ℕ)) (sink sink' : Option (List ℕ))
       (end : End V)

@@ -31,7 +31,7 @@ module _ {C V : Type 0} (G : Ghosts C V) (most : ℕ) (first now : C) where
   IsOver source' taken over whole last =
       (G.closes over first now taken whole last × IsAtEnd source' × (length taken < most))
       ⊎ ((more : Bool) × G.breaks more over first now taken whole last
-          × HasRoom more (length taken) most)
+      × HasRoom more (length taken) most)
 
   -- What holds at each ending, of the source and the sink after it, and of the bytes that were
   -- taken.
@@ -42,7 +42,7 @@ module _ {C V : Type 0} (G : Ghosts C V) (most : ℕ) (first now : C) where
       × (length taken ≡ most) × Takes f.sink f.sink' due
   EndsAs end f taken =
       StopsAs (IsOver f.source' taken) (G.gave first now taken) (G.lacks first now taken) end f.sink
-          f.sink'
+      f.sink'
 
 -- A run: these bytes were taken, at most the most, and it ended so.
 pub record Ended {C V : Type 0} (G : Ghosts C V) (most : ℕ) (first now : C) (f : Flow) (end : End V)
@@ -65,8 +65,8 @@ module _ {C V : Type 0} (G : Ghosts C V) (first now : C) (f : Flow) where
   abbrev pub IsComplete : End V → List ℕ → Type 0
   IsComplete (ends.Over over) input = (whole : List ℕ) × (last : List ℕ)
       × (G.closes over first now input whole last
-        ⊎ ((front : List ℕ) × (behind : List ℕ) × (more : Bool) × (input ≡ front ++ behind)
-          × G.breaks more over first now front whole last))
+      ⊎ ((front : List ℕ) × (behind : List ℕ) × (more : Bool) × (input ≡ front ++ behind)
+      × G.breaks more over first now front whole last))
       × Takes f.sink f.sink' (whole ++ last)
   IsComplete ends.NoMemory input = ⊤
   IsComplete ends.ReadFault input = ⊥

@@ -11,5 +11,10 @@ pub record Flow : Type 0 where
 -- the flow from one to the other
 abbrev pub flow : Option (List ℕ × List ℕ) → Option (List ℕ × List ℕ) → Option (List ℕ)
     → Option (List ℕ) → Flow
-flow source source' sink sink' = record { source = source; source' = source'; sink = sink; sink' =
-    sink' }
+flow source source' sink sink' = record {
+  source = source;
+  source' = source';
+  sink = sink;
+  sink' =
+      sink';
+}

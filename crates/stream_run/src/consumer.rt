@@ -80,7 +80,7 @@ pub trait Consumer {
         ensures waits { result ≡ Step.More → waits more self.new }
         ensures over { IfOver result (λ over. Follows went self.old
             (λ first taken due.
-                breaks more over first self.new taken due (head self.new ++ body self.new))) }
+            breaks more over first self.new taken due (head self.new ++ body self.new))) }
         ensures no_memory { result ≡ Step.NoMemory → Follows went self.old
             (λ first taken due. lacks first self.new taken due) };
 
@@ -89,7 +89,7 @@ pub trait Consumer {
         requires waits { waits true self.old }
         ensures over { IfOk result (λ over. Follows went self.old
             (λ first taken due.
-                closes over first self.new taken due (head self.new ++ body self.new))) }
+            closes over first self.new taken due (head self.new ++ body self.new))) }
         ensures no_memory { OnErr result (Follows went self.old
             (λ first taken due. lacks first self.new taken due)) };
 

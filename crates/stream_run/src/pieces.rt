@@ -41,13 +41,13 @@ pub fn take_piece<C: Consumer, S: Source>(consumer: &mut C, source: &mut S, most
     ensures fed { IfFed result (λ n. (0 < n) × (n ≤ most) × ((piece : List ℕ) × (length piece ≡ n)
         × Gives (S.told source.old) (S.told source.new) piece
         × Follows C.went consumer.old
-            (λ first taken due. C.went first consumer.new (taken ++ piece) due))) }
+        (λ first taken due. C.went first consumer.new (taken ++ piece) due))) }
     ensures end { result ≡ Piece.End → IsAtEnd (S.told source.new)
         × Gives (S.told source.old) (S.told source.new) [] × (consumer.new ≡ consumer.old) }
     ensures no_memory { result ≡ Piece.NoMemory → (piece : List ℕ) × (length piece ≤ most)
         × Gives (S.told source.old) (S.told source.new) piece
         × Follows C.went consumer.old
-            (λ first taken due. C.lacks first consumer.new (taken ++ piece) due) }
+        (λ first taken due. C.lacks first consumer.new (taken ++ piece) due) }
     ensures fault { result ≡ Piece.ReadFault → Gives (S.told source.old) (S.told source.new) []
         × Rose (S.faults source.old) (S.faults source.new) × (consumer.new ≡ consumer.old) }
     ensures faults { S.faults source.old ≤ S.faults source.new }

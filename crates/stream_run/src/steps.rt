@@ -20,13 +20,13 @@ pub fn work_off<C: Consumer, T: Sink>(
     ensures goes { result ≡ None → (given : List ℕ)
         × Takes (T.taken sink.old) (T.taken sink.new) given
         × Follows C.went consumer.old
-            (λ first taken due. C.went first consumer.new taken (due ++ given)) }
+        (λ first taken due. C.went first consumer.new taken (due ++ given)) }
     ensures waits { result ≡ None → C.waits more consumer.new }
     ensures ends { IfSome result (λ end. (start : Option (List ℕ)) → Follows C.went consumer.old
         (λ first taken due. Takes start (T.taken sink.old) due
         → StopsAs (λ over. C.breaks more over first consumer.new taken)
-            (C.gave first consumer.new taken) (C.lacks first consumer.new taken)
-            end start (T.taken sink.new))) }
+        (C.gave first consumer.new taken) (C.lacks first consumer.new taken)
+        end start (T.taken sink.new))) }
     ensures read { result ≡ Some End.ReadFault → ⊥ }
     ensures write { result ≡ Some End.WriteFault → Rose (T.faults sink.old) (T.faults sink.new) }
     ensures faults { T.faults sink.old ≤ T.faults sink.new }
@@ -55,8 +55,8 @@ pub fn close<C: Consumer, T: Sink>(consumer: &mut C, sink: &mut T) -> End<C::Ove
     ensures ends { (start : Option (List ℕ)) → Follows C.went consumer.old
         (λ first taken due. Takes start (T.taken sink.old) due
         → StopsAs (λ over. C.closes over first consumer.new taken)
-            (C.gave first consumer.new taken) (C.lacks first consumer.new taken)
-            result start (T.taken sink.new)) }
+        (C.gave first consumer.new taken) (C.lacks first consumer.new taken)
+        result start (T.taken sink.new)) }
     ensures read { result ≡ End.ReadFault → ⊥ }
     ensures write { result ≡ End.WriteFault → Rose (T.faults sink.old) (T.faults sink.new) }
 {

@@ -68,7 +68,8 @@ fn a_fault_of_the_keeper_is_answered_and_changes_nothing(rt: HostRuntime) -> Res
     assert_eq!(rt;
         output.taken(),
         b"HTTP/1.1 500 Keeper Fault\r\nContent-Length: 0\r\n\r\nHTTP/1.1 404 Not Found\r\n\
-        Content-Length: 0\r\n\r\n".as_slice()
+        Content-Length: 0\r\n\r\n"
+            .as_slice()
     );
     Ok(())
 }

@@ -30,7 +30,8 @@ fn requests_are_answered_in_order(rt: HostRuntime) -> Result<(), Fail> {
             1,
             b"PUT /a HTTP/1.1\r\nContent-Length: 1\r\n\r\nxGET /a HTTP/1.1\r\n\
             Exclusive: acquire\r\n\r\nGET /a HTTP/1.1\r\nExclusive: acquire\r\n\r\n\
-            GET /a HTTP/1.1\r\n\r\n".as_slice(),
+            GET /a HTTP/1.1\r\n\r\n"
+                .as_slice(),
             "done\nfound 1 20 0 x78\nlocked 1 1\nlocked 1 2\n",
         ),
         (
@@ -39,7 +40,8 @@ fn requests_are_answered_in_order(rt: HostRuntime) -> Result<(), Fail> {
             b"PUT /a HTTP/1.1\r\nContent-Length: 1\r\n\r\nxGET /a HTTP/1.1\r\n\
             Exclusive: acquire\r\n\r\nGET /a HTTP/1.1\r\nExclusive: acquire\r\n\r\n\
             GET /a HTTP/1.1\r\n\r\nGET /a HTTP/1.1\r\nExclusive: release\r\nLockCookie: 1\r\n\r\n\
-            GET /a HTTP/1.1\r\nExclusive: acquire\r\n\r\n".as_slice(),
+            GET /a HTTP/1.1\r\nExclusive: acquire\r\n\r\n"
+                .as_slice(),
             "done\nfound 1 20 0 x78\nlocked 1 1\nlocked 1 2\ndone\nfound 3 20 0 x78\n",
         ),
         (
@@ -48,7 +50,8 @@ fn requests_are_answered_in_order(rt: HostRuntime) -> Result<(), Fail> {
             b"PUT /a HTTP/1.1\r\nContent-Length: 1\r\n\r\nxGET /a HTTP/1.1\r\n\
             Exclusive: acquire\r\n\r\nPUT /a HTTP/1.1\r\nLockCookie: 2\r\n\
             Content-Length: 1\r\n\r\nzPUT /a HTTP/1.1\r\nLockCookie: 1\r\n\
-            Content-Length: 1\r\n\r\nyGET /a HTTP/1.1\r\n\r\n".as_slice(),
+            Content-Length: 1\r\n\r\nyGET /a HTTP/1.1\r\n\r\n"
+                .as_slice(),
             "done\nfound 1 20 0 x78\nlocked 1 1\ndone\nfound 0 20 0 x79\n",
         ),
         (
@@ -58,7 +61,8 @@ fn requests_are_answered_in_order(rt: HostRuntime) -> Result<(), Fail> {
             Exclusive: acquire\r\n\r\nPUT /a HTTP/1.1\r\nLockCookie: 2\r\n\
             Content-Length: 1\r\n\r\nzPUT /a HTTP/1.1\r\nLockCookie: 1\r\n\
             Content-Length: 1\r\n\r\nyGET /a HTTP/1.1\r\n\r\nPUT /a HTTP/1.1\r\n\
-            LockCookie: 1\r\nContent-Length: 1\r\n\r\nzGET /a HTTP/1.1\r\n\r\n".as_slice(),
+            LockCookie: 1\r\nContent-Length: 1\r\n\r\nzGET /a HTTP/1.1\r\n\r\n"
+                .as_slice(),
             "done\nfound 1 20 0 x78\nlocked 1 1\ndone\nfound 0 20 0 x79\nlocked 0 0\n\
             found 0 20 0 x79\n",
         ),
@@ -68,7 +72,8 @@ fn requests_are_answered_in_order(rt: HostRuntime) -> Result<(), Fail> {
             b"PUT /a HTTP/1.1\r\nContent-Length: 1\r\n\r\nxGET /a HTTP/1.1\r\n\
             Exclusive: acquire\r\n\r\nDELETE /a HTTP/1.1\r\nLockCookie: 1\r\n\r\n\
             PUT /a HTTP/1.1\r\nContent-Length: 1\r\n\r\nyDELETE /a HTTP/1.1\r\n\
-            LockCookie: 1\r\n\r\nGET /a HTTP/1.1\r\n\r\n".as_slice(),
+            LockCookie: 1\r\n\r\nGET /a HTTP/1.1\r\n\r\n"
+                .as_slice(),
             "done\nfound 1 20 0 x78\ndone\ndone\nlocked 0 0\nfound 0 20 0 x79\n",
         ),
         (
@@ -76,21 +81,24 @@ fn requests_are_answered_in_order(rt: HostRuntime) -> Result<(), Fail> {
             1,
             b"PUT /a HTTP/1.1\r\nExtraFlags: 1\r\n\r\nGET /a HTTP/1.1\r\n\r\n\
             GET /a HTTP/1.1\r\n\r\nPUT /a HTTP/1.1\r\nExtraFlags: 1\r\nContent-Length: 1\r\n\r\n\
-            zGET /a HTTP/1.1\r\n\r\n".as_slice(),
+            zGET /a HTTP/1.1\r\n\r\n"
+                .as_slice(),
             "done\nfound 0 20 1 x\nfound 0 20 0 x\ndone\nfound 0 20 0 x\n",
         ),
         (
             60000,
             1,
             b"PUT /a HTTP/1.1\r\nTimeout: 1\r\nContent-Length: 1\r\n\r\n\
-            xGET /a HTTP/1.1\r\n\r\n".as_slice(),
+            xGET /a HTTP/1.1\r\n\r\n"
+                .as_slice(),
             "done\nmissing\n",
         ),
         (
             59999,
             1,
             b"PUT /a HTTP/1.1\r\nTimeout: 1\r\nContent-Length: 1\r\n\r\n\
-            xGET /a HTTP/1.1\r\n\r\n".as_slice(),
+            xGET /a HTTP/1.1\r\n\r\n"
+                .as_slice(),
             "done\nfound 0 1 0 x78\n",
         ),
         (
@@ -98,14 +106,16 @@ fn requests_are_answered_in_order(rt: HostRuntime) -> Result<(), Fail> {
             1,
             b"PUT /a HTTP/1.1\r\nTimeout: 1\r\n\r\nGET /a HTTP/1.1\r\nExclusive: acquire\r\n\r\n\
             HEAD /a HTTP/1.1\r\n\r\nHEAD /a HTTP/1.1\r\n\r\nGET /a HTTP/1.1\r\n\
-            Exclusive: release\r\nLockCookie: 1\r\n\r\nGET /a HTTP/1.1\r\n\r\n".as_slice(),
+            Exclusive: release\r\nLockCookie: 1\r\n\r\nGET /a HTTP/1.1\r\n\r\n"
+                .as_slice(),
             "done\nfound 1 1 0 x\ndone\ndone\ndone\nfound 0 1 0 x\n",
         ),
         (
             59999,
             1,
             b"PUT /a HTTP/1.1\r\nTimeout: 1\r\n\r\nGET /a HTTP/1.1\r\nExclusive: acquire\r\n\r\n\
-            GET /a HTTP/1.1\r\n\r\nHEAD /a HTTP/1.1\r\n\r\n".as_slice(),
+            GET /a HTTP/1.1\r\n\r\nHEAD /a HTTP/1.1\r\n\r\n"
+                .as_slice(),
             "done\nfound 1 1 0 x\nlocked 1 59\nmissing\n",
         ),
         (
@@ -113,7 +123,8 @@ fn requests_are_answered_in_order(rt: HostRuntime) -> Result<(), Fail> {
             1,
             b"PUT /LM/W3SVC/1/ROOT(q)/id HTTP/1.1\r\nHost: web1\r\nTimeout: 20\r\n\
             Content-Length: 3\r\n\r\nabcGET %2fLM%2fW3SVC%2f1%2fROOT(q)%2fid HTTP/1.1\r\n\
-            Host: web1\r\nExclusive: acquire\r\n\r\n".as_slice(),
+            Host: web1\r\nExclusive: acquire\r\n\r\n"
+                .as_slice(),
             "done\nfound 1 20 0 x616263\n",
         ),
         (
@@ -127,7 +138,8 @@ fn requests_are_answered_in_order(rt: HostRuntime) -> Result<(), Fail> {
             9223372036854775807,
             b"PUT /a HTTP/1.1\r\nContent-Length: 1\r\n\r\nxPUT /b HTTP/1.1\r\n\
             Content-Length: 1\r\n\r\nxGET /a HTTP/1.1\r\nExclusive: acquire\r\n\r\n\
-            GET /b HTTP/1.1\r\nExclusive: acquire\r\n\r\nGET /b HTTP/1.1\r\n\r\n".as_slice(),
+            GET /b HTTP/1.1\r\nExclusive: acquire\r\n\r\nGET /b HTTP/1.1\r\n\r\n"
+                .as_slice(),
             "done\ndone\nfound 9223372036854775807 20 0 x78\ncookies-out\nfound 0 20 0 x78\n",
         ),
         (
@@ -141,14 +153,16 @@ fn requests_are_answered_in_order(rt: HostRuntime) -> Result<(), Fail> {
             1,
             b"POST /a HTTP/1.1\r\n\r\nPUT /a HTTP/1.1\r\nTimeout: 0\r\n\r\nPUT /a HTTP/1.1\r\n\
             Timeout: 525601\r\n\r\nGET /a HTTP/1.1\r\nExclusive: acquire\r\n\
-            exclusive: acquire\r\n\r\nGET /a HTTP/1.1\r\n\r\n".as_slice(),
+            exclusive: acquire\r\n\r\nGET /a HTTP/1.1\r\n\r\n"
+                .as_slice(),
             "bad\nbad\nbad\nbad\nmissing\n",
         ),
         (
             1000,
             1,
             b"PUT /a HTTP/1.1\r\ntimeout: 00525600\r\nLockCookie: 0\r\n\r\n\
-            GET /a HTTP/1.1\r\n\r\n".as_slice(),
+            GET /a HTTP/1.1\r\n\r\n"
+                .as_slice(),
             "done\nfound 0 525600 0 x\n",
         ),
     ] {
@@ -245,7 +259,8 @@ fn each_ask_finds_each_item_by_the_table(rt: HostRuntime) -> Result<(), Fail> {
         ),
         (
             b"PUT /a HTTP/1.1\r\nExtraFlags: 1\r\nLockCookie: 1\r\n\
-            Content-Length: 1\r\n\r\ny".as_slice(),
+            Content-Length: 1\r\n\r\ny"
+                .as_slice(),
             [
                 "missing\nmissing\n",
                 "missing\nmissing\n",

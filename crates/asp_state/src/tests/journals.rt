@@ -27,11 +27,13 @@ fn requests_have_their_lines(rt: HostRuntime) -> Result<(), Fail> {
             WRITE_AND_READ,
             0,
             b"0 0 0 0 x2f61 write 0 20 0 x78 : done\n\
-            0 1000 0 0 x2f61 read : found 0 20 0 x78\n".as_slice(),
+            0 1000 0 0 x2f61 read : found 0 20 0 x78\n"
+                .as_slice(),
         ),
         (
             b"POST /a HTTP/1.1\r\n\r\nGET /a HTTP/1.1\r\nExclusive: acquire\r\n\r\n\
-            HEAD /b HTTP/1.1\r\n\r\nGET".as_slice(),
+            HEAD /b HTTP/1.1\r\n\r\nGET"
+                .as_slice(),
             3,
             b"0 1000 0 1 x2f61 acquire : missing\n0 2000 0 0 x2f62 reset : missing\n".as_slice(),
         ),

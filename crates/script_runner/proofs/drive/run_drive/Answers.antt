@@ -10,34 +10,34 @@ returns-clause-ran g c = (
   c.status.ensures,
   (drive_of g.K.Keeper c.args.most _ c.run-end.new.consumer (g.S.Source.told c.args.source.now)
       (g.S.Source.told c.run-end.new.source) (g.T.Sink.taken c.args.sink.now)
-          (g.T.Sink.taken c.run-end.new.sink) c.into_keeper.result
-    c.into_keeper.ensures.history c.into_keeper.ensures.lawful c.into_keeper.ensures.forced
-        c.run-end.result c.run-end.ensures.ran),
+      (g.T.Sink.taken c.run-end.new.sink) c.into_keeper.result
+      c.into_keeper.ensures.history c.into_keeper.ensures.lawful c.into_keeper.ensures.forced
+      c.run-end.result c.run-end.ensures.ran),
 )
 
 pub returns-clause-broken : goal.returns-clause-broken
 returns-clause-broken g c = λ is script.
     no_script g.K.Keeper.can_count c.args.most (g.T.Sink.taken c.args.sink.now)
-        (g.T.Sink.taken c.run-end.new.sink) (g.K.Keeper.told c.into_keeper.result)
-            (g.K.Keeper.count c.into_keeper.result)
+    (g.T.Sink.taken c.run-end.new.sink) (g.K.Keeper.told c.into_keeper.result)
+    (g.K.Keeper.count c.into_keeper.result)
     (g.S.Source.told c.args.source.now) (g.S.Source.told c.run-end.new.source) c.run-end.result
     (drive_of g.K.Keeper c.args.most _ c.run-end.new.consumer (g.S.Source.told c.args.source.now)
-        (g.S.Source.told c.run-end.new.source) (g.T.Sink.taken c.args.sink.now)
-            (g.T.Sink.taken c.run-end.new.sink) c.into_keeper.result
+    (g.S.Source.told c.run-end.new.source) (g.T.Sink.taken c.args.sink.now)
+    (g.T.Sink.taken c.run-end.new.sink) c.into_keeper.result
     c.into_keeper.ensures.history c.into_keeper.ensures.lawful c.into_keeper.ensures.forced
-        c.run-end.result c.run-end.ensures.ran)
+    c.run-end.result c.run-end.ensures.ran)
     (sym c.status.ensures ∙ is) script
 
 pub returns-clause-complete : goal.returns-clause-complete
 returns-clause-complete g c = λ script fewer read write.
     subst (λ (n : ℕ). (n ≡ 0) ⊎ (n ≡ 6)) (sym c.status.ensures)
     (complete_run g.K.Keeper.can_count c.args.most (g.T.Sink.taken c.args.sink.now)
-        (g.T.Sink.taken c.run-end.new.sink) (g.K.Keeper.told c.into_keeper.result)
-            (g.K.Keeper.count c.into_keeper.result)
+    (g.T.Sink.taken c.run-end.new.sink) (g.K.Keeper.told c.into_keeper.result)
+    (g.K.Keeper.count c.into_keeper.result)
     (g.S.Source.told c.args.source.now) (g.S.Source.told c.run-end.new.source) c.run-end.result
     (drive_of g.K.Keeper c.args.most _ c.run-end.new.consumer (g.S.Source.told c.args.source.now)
-        (g.S.Source.told c.run-end.new.source) (g.T.Sink.taken c.args.sink.now)
-            (g.T.Sink.taken c.run-end.new.sink) c.into_keeper.result
+    (g.S.Source.told c.run-end.new.source) (g.T.Sink.taken c.args.sink.now)
+    (g.T.Sink.taken c.run-end.new.sink) c.into_keeper.result
     c.into_keeper.ensures.history c.into_keeper.ensures.lawful c.into_keeper.ensures.forced
-        c.run-end.result c.run-end.ensures.ran)
+    c.run-end.result c.run-end.ensures.ran)
     script fewer (λ e. read (c.run-end.ensures.read e)) (λ e. write (c.run-end.ensures.write e)))

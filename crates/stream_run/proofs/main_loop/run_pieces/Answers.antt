@@ -12,7 +12,7 @@ returns-in-Some-clause-ran g c =
     (g.T.Sink.taken c.args.sink.now) (g.T.Sink.taken c.pieces.sink))
     c.pieces.left c.pieces.invariant.running
     c.work_off.new.consumer (g.T.Sink.taken c.work_off.new.sink) c.in-Some.end
-        c.in-Some.ensures.ends
+    c.in-Some.ensures.ends
 
 pub returns-in-Some-clause-read : goal.returns-in-Some-clause-read
 returns-in-Some-clause-read g c = λ is. absurd (c.in-Some.ensures.read (ap Some is))
@@ -22,15 +22,15 @@ returns-in-End-clause-ran g c =
     let ended = c.in-End.ensures.end refl in
     let some : 0 < c.pieces.left = omega (arith, c.if-left-eq0.false) in
     let run = Running-on g.C.Consumer c.args.most c.args.consumer.now c.pieces.consumer
-        (flow (g.S.Source.told c.args.source.now) (g.S.Source.told c.pieces.source)
-        (g.T.Sink.taken c.args.sink.now) (g.T.Sink.taken c.pieces.sink))
-        c.pieces.left c.pieces.invariant.running
-        c.work_off.new.consumer (g.T.Sink.taken c.work_off.new.sink)
-            (c.work_off.ensures.goes c.in_default.is) in
+    (flow (g.S.Source.told c.args.source.now) (g.S.Source.told c.pieces.source)
+    (g.T.Sink.taken c.args.sink.now) (g.T.Sink.taken c.pieces.sink))
+    c.pieces.left c.pieces.invariant.running
+    c.work_off.new.consumer (g.T.Sink.taken c.work_off.new.sink)
+    (c.work_off.ensures.goes c.in_default.is) in
     let here = flow (g.S.Source.told c.args.source.now) (g.S.Source.told c.pieces.source)
-        (g.T.Sink.taken c.args.sink.now) (g.T.Sink.taken c.work_off.new.sink) in
+    (g.T.Sink.taken c.args.sink.now) (g.T.Sink.taken c.work_off.new.sink) in
     ended-closed g.C.Consumer c.args.most c.args.consumer.now c.take_piece.new.consumer here
-        c.pieces.left
+    c.pieces.left
     (subst (λ x. Running g.C.Consumer.went c.args.most c.args.consumer.now x here c.pieces.left)
     (sym ended.2) run)
     c.close.new.consumer (g.S.Source.told c.take_piece.new.source) (g.T.Sink.taken c.close.new.sink)
@@ -44,15 +44,15 @@ returns-in-ReadFault-clause-ran g c =
     let fault = c.in-ReadFault.ensures.fault refl in
     let some : 0 < c.pieces.left = omega (arith, c.if-left-eq0.false) in
     let run = Running-on g.C.Consumer c.args.most c.args.consumer.now c.pieces.consumer
-        (flow (g.S.Source.told c.args.source.now) (g.S.Source.told c.pieces.source)
-        (g.T.Sink.taken c.args.sink.now) (g.T.Sink.taken c.pieces.sink))
-        c.pieces.left c.pieces.invariant.running
-        c.work_off.new.consumer (g.T.Sink.taken c.work_off.new.sink)
-            (c.work_off.ensures.goes c.in_default.is) in
+    (flow (g.S.Source.told c.args.source.now) (g.S.Source.told c.pieces.source)
+    (g.T.Sink.taken c.args.sink.now) (g.T.Sink.taken c.pieces.sink))
+    c.pieces.left c.pieces.invariant.running
+    c.work_off.new.consumer (g.T.Sink.taken c.work_off.new.sink)
+    (c.work_off.ensures.goes c.in_default.is) in
     let here = flow (g.S.Source.told c.args.source.now) (g.S.Source.told c.pieces.source)
-        (g.T.Sink.taken c.args.sink.now) (g.T.Sink.taken c.work_off.new.sink) in
+    (g.T.Sink.taken c.args.sink.now) (g.T.Sink.taken c.work_off.new.sink) in
     ended-read g.C.Consumer c.args.most c.args.consumer.now c.take_piece.new.consumer here
-        c.pieces.left
+    c.pieces.left
     (subst (λ x. Running g.C.Consumer.went c.args.most c.args.consumer.now x here c.pieces.left)
     (sym fault.2) run)
     (g.S.Source.told c.take_piece.new.source) some fault.0
@@ -64,17 +64,17 @@ pub returns-in-NoMemory-clause-ran : goal.returns-in-NoMemory-clause-ran
 returns-in-NoMemory-clause-ran g c =
     let unfed = c.in-NoMemory.ensures.no_memory refl in
     let run = Running-on g.C.Consumer c.args.most c.args.consumer.now c.pieces.consumer
-        (flow (g.S.Source.told c.args.source.now) (g.S.Source.told c.pieces.source)
-        (g.T.Sink.taken c.args.sink.now) (g.T.Sink.taken c.pieces.sink))
-        c.pieces.left c.pieces.invariant.running
-        c.work_off.new.consumer (g.T.Sink.taken c.work_off.new.sink)
-            (c.work_off.ensures.goes c.in_default.is) in
+    (flow (g.S.Source.told c.args.source.now) (g.S.Source.told c.pieces.source)
+    (g.T.Sink.taken c.args.sink.now) (g.T.Sink.taken c.pieces.sink))
+    c.pieces.left c.pieces.invariant.running
+    c.work_off.new.consumer (g.T.Sink.taken c.work_off.new.sink)
+    (c.work_off.ensures.goes c.in_default.is) in
     ended-unfed g.C.Consumer c.args.most c.args.consumer.now c.work_off.new.consumer
     (flow (g.S.Source.told c.args.source.now) (g.S.Source.told c.pieces.source)
     (g.T.Sink.taken c.args.sink.now) (g.T.Sink.taken c.work_off.new.sink))
     c.pieces.left run
     c.take_piece.new.consumer (g.S.Source.told c.take_piece.new.source) unfed.0 unfed.2 unfed.1
-        unfed.3
+    unfed.3
 
 pub take_piece-requires-clause-waits : goal.take_piece-requires-clause-waits
 take_piece-requires-clause-waits g c =
@@ -86,11 +86,11 @@ pub returns-then-left-eq0-clause-ran : goal.returns-then-left-eq0-clause-ran
 returns-then-left-eq0-clause-ran g c =
     let none = c.if-left-eq0.true in
     let run = Running-on g.C.Consumer c.args.most c.args.consumer.now c.pieces.consumer
-        (flow (g.S.Source.told c.args.source.now) (g.S.Source.told c.pieces.source)
-        (g.T.Sink.taken c.args.sink.now) (g.T.Sink.taken c.pieces.sink))
-        c.pieces.left c.pieces.invariant.running
-        c.work_off.new.consumer (g.T.Sink.taken c.work_off.new.sink)
-            (c.work_off.ensures.goes c.in_default.is) in
+    (flow (g.S.Source.told c.args.source.now) (g.S.Source.told c.pieces.source)
+    (g.T.Sink.taken c.args.sink.now) (g.T.Sink.taken c.pieces.sink))
+    c.pieces.left c.pieces.invariant.running
+    c.work_off.new.consumer (g.T.Sink.taken c.work_off.new.sink)
+    (c.work_off.ensures.goes c.in_default.is) in
     ended-long g.C.Consumer c.args.most c.args.consumer.now c.work_off.new.consumer
     (flow (g.S.Source.told c.args.source.now) (g.S.Source.told c.pieces.source)
     (g.T.Sink.taken c.args.sink.now) (g.T.Sink.taken c.work_off.new.sink))

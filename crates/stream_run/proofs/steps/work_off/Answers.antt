@@ -12,7 +12,7 @@ steps-preserved g c =
       goes = goes_further g.C.Consumer.went (g.T.Sink.taken c.args.sink.now)
           (g.T.Sink.taken c.steps.sink)
           (g.T.Sink.taken c.write_given.new.sink) c.args.consumer.now c.steps.consumer
-              c.step.new.self out
+          c.step.new.self out
           c.steps.invariant.goes c.in-Ok.ensures.taken
           (λ first taken due went. (did first taken due went).0);
       short = (short.0, short.1, short.2 ++ out, (did short.0 short.1 short.2 short.3).0, short.4);
@@ -25,10 +25,13 @@ returns-in-Err-write_given-clause-ends g c = λ start first taken due went wrote
     stops_in_part (λ over. g.C.Consumer.breaks c.args.more over first c.step.new.self taken)
     (g.C.Consumer.gave first c.step.new.self taken) (g.C.Consumer.lacks first c.step.new.self taken)
     start (g.T.Sink.taken c.steps.sink) (g.T.Sink.taken c.write_given-in-Over.new.sink)
-        (due ++ goes.0)
+    (due ++ goes.0)
     (g.C.Consumer.head c.step.new.self ++ g.C.Consumer.body c.step.new.self)
     (Takes-trans start (g.T.Sink.taken c.args.sink.now) (g.T.Sink.taken c.steps.sink) due goes.0
-        wrote goes.1)
-    (inl (c.in-Over.over, c.in-Over.ensures.over first taken (due ++ goes.0)
-        (goes.2 first taken due went)))
+    wrote goes.1)
+    (inl (
+      c.in-Over.over,
+      c.in-Over.ensures.over first taken (due ++ goes.0)
+          (goes.2 first taken due went),
+    ))
     c.in-Err-write_given.ensures.some c.in-Err-write_given.ensures.in_part

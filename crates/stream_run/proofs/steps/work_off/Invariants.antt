@@ -7,7 +7,7 @@ abbrev pub invariant-steps : goal.invariant-steps
 invariant-steps g l = record {
   goes : (given : List ℕ) × Takes (g.T.Sink.taken l.fn.sink) (g.T.Sink.taken l.sink) given
       × Follows g.C.Consumer.went l.fn.consumer
-          (λ first taken due. g.C.Consumer.went first l.consumer taken (due ++ given));
+      (λ first taken due. g.C.Consumer.went first l.consumer taken (due ++ given));
   short : IsShort g.C.Consumer.went l.consumer 0;
   faults : g.T.Sink.faults l.fn.sink ≤ g.T.Sink.faults l.sink;
 }

@@ -8,11 +8,11 @@ use Rattle.stream_run.proofs.writing.write_apart.Goals as goal
 front_after : {E : Type 0} (r : Result (Unit {0}) E) (a b c : Option (List ℕ)) (head body : List ℕ)
     → Takes a b head
     → MatchResult r (λ _. Takes b c body) (λ _. TakesFront b c body)
-        → OnErr r (TakesFront a c (head ++ body))
+    → OnErr r (TakesFront a c (head ++ body))
 front_after (Ok x) a b c head body whole second = tt
 front_after (Err e) a b c head body whole second = TakesFront-after a b c head body whole second
 
 pub returns-clause-in_part : goal.returns-clause-in_part
 returns-clause-in_part g c =
     front_after c.write_whole-2.result _ _ _ c.args.head.now c.args.body.now
-        c.in_ok-write_whole.ensures.taken c.write_whole-2.ensures.taken
+    c.in_ok-write_whole.ensures.taken c.write_whole-2.ensures.taken

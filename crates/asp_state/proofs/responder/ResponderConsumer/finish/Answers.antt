@@ -21,6 +21,6 @@ returns-in-Some-clause-over g c = λ first taken due went. (
       (ap (λ (r : Responder _). r.clock) c.give_closing.ensures.same) went c.requires.waits
       (λ none.
       not_both (is_some c.finish.result)
-          (c.finish.ensures.finished.1 (c.requires.waits.whole refl, none))
-          (ap is_some c.in-Some.is)),
+      (c.finish.ensures.finished.1 (c.requires.waits.whole refl, none))
+      (ap is_some c.in-Some.is)),
 )

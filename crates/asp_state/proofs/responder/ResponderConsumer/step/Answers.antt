@@ -11,7 +11,8 @@ use Rattle.asp_state.proofs.responder.ResponderConsumer.step.Goals as goal
 
 pub returns-then-not-self-clause-did : goal.returns-then-not-self-clause-did
 returns-then-not-self-clause-did g c = λ is first taken due went.
-    begin_did g.K.Keeper first c.args.self.now _ taken due refl refl refl refl (search rules) refl refl went
+    begin_did g.K.Keeper first c.args.self.now _ taken due refl refl refl refl
+    (search rules) refl refl went
 
 pub answer-requires-clause-message : goal.answer-requires-clause-message
 answer-requires-clause-message g c =
@@ -53,7 +54,7 @@ returns-in-More-clause-waits g c = λ is.
           (c.in-More.ensures.none_whole refl);
       whole = λ more. ap (λ (h : Held). h.is_broken) same
           ∙ not_true c.args.self.now.stream.reader.is_broken
-            (λ wrong. let ends = c.next.ensures.stays wrong in let is = c.in-More.is in cc);
+          (λ wrong. let ends = c.next.ensures.stays wrong in let is = c.in-More.is in cc);
     }
 
 pub returns-else-not-more-clause-over : goal.returns-else-not-more-clause-over

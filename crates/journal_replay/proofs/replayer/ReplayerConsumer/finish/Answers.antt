@@ -11,10 +11,10 @@ returns-in_ok-write_judgement-in-None-clause-over c = λ first taken due went. (
   went.1,
   finds_judged c.verdict-judgement.result.now c.verdict_of.result taken c.args.self.now.reader
       c.args.self.now.checker
-    (c.write_judgement.new.out.items ++ [])
-    c.in-None.ensures.journal c.verdict-judgement.ensures.judges c.verdict_of.ensures
-    (line_only c.write_judgement.new.out.items (judgement_line c.verdict-judgement.result.now)
-    (c.in_ok-write_judgement-in-None.ensures.ok
-        ∙ ap (λ out. out ++ judgement_line c.verdict-judgement.result.now) went.2))
-    went.0,
+      (c.write_judgement.new.out.items ++ [])
+      c.in-None.ensures.journal c.verdict-judgement.ensures.judges c.verdict_of.ensures
+      (line_only c.write_judgement.new.out.items (judgement_line c.verdict-judgement.result.now)
+      (c.in_ok-write_judgement-in-None.ensures.ok
+      ∙ ap (λ out. out ++ judgement_line c.verdict-judgement.result.now) went.2))
+      went.0,
 )

@@ -7,33 +7,47 @@ pub take-requires-clause-few : goal.take-requires-clause-few
 take-requires-clause-few c =
     let short = c.requires.short in
     few_taken short.1 c.args.self.now.reader c.args.self.now.checker short.3.0 short.4
-        c.in-Entry.ensures.entry.1
+    c.in-Entry.ensures.entry.1
 
 pub returns-in-Head-clause-did : goal.returns-in-Head-clause-did
 returns-in-Head-clause-did c = λ is first taken due went.
-    let took = c.in-Head.ensures.head in
-    ((head_at taken c.in-Head.place c.args.self.now.reader c.next.new.self c.args.self.now.checker
-        c.new.result took.1 went.0 (c.in-Head.ensures.reads taken) took.2.is_whole
+    let took = c.in-Head.ensures.head in (
+      (
+        head_at taken c.in-Head.place c.args.self.now.reader c.next.new.self c.args.self.now.checker
+            c.new.result took.1 went.0 (c.in-Head.ensures.reads taken) took.2.is_whole
             c.new.ensures.first c.new.ensures.taken,
-      none_more due c.args.self.now.line.items went.1 went.2, went.2), none_last
-          c.args.self.now.line.items went.2)
+        none_more due c.args.self.now.line.items went.1 went.2,
+        went.2,
+      ),
+      none_last
+          c.args.self.now.line.items went.2,
+    )
 
 pub returns-in-Ok-clause-did : goal.returns-in-Ok-clause-did
 returns-in-Ok-clause-did c = λ is first taken due went.
-    let took = c.in-Entry.ensures.entry in
-    ((entry_at taken c.in-Entry.entry c.args.self.now.reader c.next.new.self c.args.self.now.checker
-        c.take.new.self took.1 went.0 (c.in-Entry.ensures.reads taken) took.2.is_whole
+    let took = c.in-Entry.ensures.entry in (
+      (
+        entry_at taken c.in-Entry.entry c.args.self.now.reader c.next.new.self
+            c.args.self.now.checker
+            c.take.new.self took.1 went.0 (c.in-Entry.ensures.reads taken) took.2.is_whole
             c.in-Ok.ensures.first c.in-Ok.ensures.taken,
-      none_more due c.args.self.now.line.items went.1 went.2, went.2), none_last
-          c.args.self.now.line.items went.2)
+        none_more due c.args.self.now.line.items went.1 went.2,
+        went.2,
+      ),
+      none_last
+          c.args.self.now.line.items went.2,
+    )
 
 pub returns-in-Ok-write_stop-clause-over : goal.returns-in-Ok-write_stop-clause-over
 returns-in-Ok-write_stop-clause-over c = λ first taken due went. (
-    went.1,
-    (c.in-NotAJournal.offset,
-     stops_none taken c.args.self.now.reader c.next.new.self c.args.self.now.checker
-         c.in-NotAJournal.offset c.in-NotAJournal.ensures.broken c.in-NotAJournal.ensures.offset
-             (c.in-NotAJournal.ensures.reads taken) went.0,
-     line_only c.write_stop.new.out.items (stop_line c.in-NotAJournal.offset)
-         (c.in-Ok-write_stop.ensures
-             ∙ ap (λ out. out ++ stop_line c.in-NotAJournal.offset) went.2)))
+  went.1,
+  (
+    c.in-NotAJournal.offset,
+    stops_none taken c.args.self.now.reader c.next.new.self c.args.self.now.checker
+        c.in-NotAJournal.offset c.in-NotAJournal.ensures.broken c.in-NotAJournal.ensures.offset
+        (c.in-NotAJournal.ensures.reads taken) went.0,
+    line_only c.write_stop.new.out.items (stop_line c.in-NotAJournal.offset)
+        (c.in-Ok-write_stop.ensures
+        ∙ ap (λ out. out ++ stop_line c.in-NotAJournal.offset) went.2),
+  ),
+)

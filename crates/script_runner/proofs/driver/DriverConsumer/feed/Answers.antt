@@ -9,7 +9,10 @@ on_err (Err e) on follows = follows on
 
 pub returns-clause-err : goal.returns-clause-err
 returns-clause-err g c = on_err c.feed.result c.feed.ensures.err (λ same first taken due went. (
-    went.1,
-    (c.args.self.now.held ++ c.args.piece.now,
-     inl (HasRun-fed g.K.Keeper c.args.self.now.script taken c.args.self.now.held
-         (c.args.self.now.held ++ c.args.piece.now) c.args.piece.now due went.0 refl))))
+  went.1,
+  (
+    c.args.self.now.held ++ c.args.piece.now,
+    inl (HasRun-fed g.K.Keeper c.args.self.now.script taken c.args.self.now.held
+        (c.args.self.now.held ++ c.args.piece.now) c.args.piece.now due went.0 refl),
+  ),
+))
