@@ -118,7 +118,8 @@ module _ (CanCount : ℕ → Type 0) (pipe : Pipe) (bytes due front : List ℕ) 
           messages = run.messages ++ Fit r ∷ [];
           list = run.list ++ entry_of r answer s'.faults ∷ [];
           spelled =
-              Spelled-push SpellsRequest bytes run.messages front s'.held (Fit r) run.spelled spells;
+              Spelled-push SpellsRequest bytes run.messages front s'.held
+              (Fit r) run.spelled spells;
           plain =
               map-append asking_of run.list (entry_of r answer s'.faults ∷ [])
               ∙ ap (λ t. t ++ (0, answer.moment, Asked r, answer.drawn) ∷ []) run.plain
@@ -127,7 +128,8 @@ module _ (CanCount : ℕ → Type 0) (pipe : Pipe) (bytes due front : List ℕ) 
               ∙ sym (askings-push pipe.start pipe.step pipe.first 0 0 run.messages (Fit r));
           due_is =
               ap (λ t. t ++ due_for (output_of pipe.journal) (Fit r) answer s'.faults) run.due_is
-              ∙ sym (due-fit (output_of pipe.journal) pipe.start pipe.step pipe.first s'.faults answer
+              ∙ sym (due-fit (output_of pipe.journal) pipe.start pipe.step pipe.first s'.faults
+              answer
               run.messages run.list r run.plain);
           desk = stands.1;
           last_cookie = one.replies.last ∙ run.last_cookie;
@@ -141,7 +143,8 @@ module _ (CanCount : ℕ → Type 0) (pipe : Pipe) (bytes due front : List ℕ) 
             s'.told s'.faults s'.cookies
         stands = one.replies.history pipe.first run.list run.desk
 
-        drawn_is : answer.drawn ≡ draw_of pipe.first most_cookie (0 + total_draws run.messages) r.ask
+        drawn_is : answer.drawn ≡ draw_of pipe.first most_cookie (0 + total_draws run.messages)
+            r.ask
         drawn_is =
             let all =
             draws_in-plain pipe.start pipe.step pipe.first 0 0 run.messages run.list run.plain in

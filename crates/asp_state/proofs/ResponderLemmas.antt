@@ -186,7 +186,8 @@ module _ {K : Type 0} (G : Ghosts K) (first : Responder K) where
             pipe = keeps.pipe ∙ before.pipe;
             floor = keeps.floor ∙ before.floor;
             progress =
-                goes_on G.can_count first.pipe bytes due front Gives (state_of G mid) (state_of G new)
+                goes_on G.can_count first.pipe bytes due front Gives (state_of G mid)
+                (state_of G new)
                 m one spells before.progress;
           })
 
@@ -268,7 +269,8 @@ module _ {K : Type 0} (G : Ghosts K) (first : Responder K) where
           (state_of G (record old { stream = taken })) (state_of G new)
           → Went G first new bytes (due ++ given new) × Gave G first new bytes due (given new)
       step_did one =
-          let all = has_answered old (record old { stream = taken }) new bytes went.0 due took.front m
+          let all = has_answered old (record old { stream = taken }) new bytes went.0 due took.front
+          m
           has_before refl refl refl parts_of.1 took.spells keeps (λ due. given new ≡ due) one in
           let same : HasAnswered G first new bytes new.stream.reader.held (due ++ given new) =
           subst (λ d. HasAnswered G first new bytes new.stream.reader.held (due ++ d))
@@ -278,7 +280,8 @@ module _ {K : Type 0} (G : Ghosts K) (first : Responder K) where
             (
               new.stream.reader.held,
               inl (sound, refl),
-              owed new bytes new.stream.reader.held (due ++ given new) (keeps.is_begun ∙ begun) same,
+              owed new bytes new.stream.reader.held (due ++ given new) (keeps.is_begun
+                  ∙ begun) same,
             ),
             (new.stream.reader.held, same),
           )

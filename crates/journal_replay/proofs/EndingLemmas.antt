@@ -136,9 +136,9 @@ module _ (most : ℕ) (first now : Replayer) (source source' : Option (List ℕ 
             ⊎ (last ≡ [])
             → 0 < length last → n ≤ length last → Takes sink sink' (whole ++ take n last)
             → EndsAs ends.WriteFault source' sink sink' run.taken most
-        in_part whole last n (inl (verdict, over)) some le wrote =
-            let due = due_of most first now source' sink sink' run.taken verdict whole last over in (
-              verdict,
+        in_part whole last n (inl (found, over)) some le wrote =
+            let due = due_of most first now source' sink sink' run.taken found whole last over in (
+              found,
               last,
               due.1,
               last_front most first now source' sink sink' run.taken whole last n due.0 le wrote,

@@ -18,7 +18,8 @@ fn run_pieces<C: Consumer, S: Source, T: Sink>(
     requires most { most ≤ 2 ^ 40 }
     requires begun { C.went consumer.old consumer.old [] [] }
     ensures ran { Ended ⟦<C as Consumer>⟧ most consumer.old consumer.new
-        (flow (S.told source.old) (S.told source.new) (T.taken sink.old) (T.taken sink.new)) result }
+        (flow (S.told source.old) (S.told source.new) (T.taken sink.old) (T.taken sink.new))
+        result }
     ensures read { result ≡ End.ReadFault → Rose (S.faults source.old) (S.faults source.new) }
     ensures write { result ≡ End.WriteFault → Rose (T.faults sink.old) (T.faults sink.new) }
 {
@@ -51,7 +52,8 @@ pub fn run<C: Consumer, S: Source, T: Sink>(
     requires most { most ≤ 2 ^ 40 }
     requires begun { C.went consumer.old consumer.old [] [] }
     ensures ran { Ended ⟦<C as Consumer>⟧ most consumer.old consumer.new
-        (flow (S.told source.old) (S.told source.new) (T.taken sink.old) (T.taken sink.new)) result }
+        (flow (S.told source.old) (S.told source.new) (T.taken sink.old) (T.taken sink.new))
+        result }
     ensures read { result ≡ End.ReadFault → Rose (S.faults source.old) (S.faults source.new) }
     ensures write { result ≡ End.WriteFault → Rose (T.faults sink.old) (T.faults sink.new) }
 

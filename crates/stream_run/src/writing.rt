@@ -21,7 +21,8 @@ fn joined(head: &[u8], body: &[u8]) -> Option<ArrayVec<u8, MOST_AT_ONCE>>
 }
 
 fn write_apart<T: Sink>(sink: &mut T, head: &[u8], body: &[u8]) -> Result<(), Failed>
-    ensures taken { OnOk result (Takes (T.taken sink.old) (T.taken sink.new) (head.now ++ body.now)) }
+    ensures taken { OnOk result
+        (Takes (T.taken sink.old) (T.taken sink.new) (head.now ++ body.now)) }
     ensures in_part { OnErr result
         (TakesFront (T.taken sink.old) (T.taken sink.new) (head.now ++ body.now)) }
     ensures cause { HasCause (T.faults sink.old) (T.faults sink.new) result }
@@ -33,7 +34,8 @@ fn write_apart<T: Sink>(sink: &mut T, head: &[u8], body: &[u8]) -> Result<(), Fa
 /// Writes a head and then a body, both in one call of the sink where they are short; it takes no
 /// memory. After `Failed` a front of them was taken.
 pub fn write_text<T: Sink>(sink: &mut T, head: &[u8], body: &[u8]) -> Result<(), Failed>
-    ensures taken { OnOk result (Takes (T.taken sink.old) (T.taken sink.new) (head.now ++ body.now)) }
+    ensures taken { OnOk result
+        (Takes (T.taken sink.old) (T.taken sink.new) (head.now ++ body.now)) }
     ensures in_part { OnErr result
         (TakesFront (T.taken sink.old) (T.taken sink.new) (head.now ++ body.now)) }
     ensures cause { HasCause (T.faults sink.old) (T.faults sink.new) result }

@@ -11,7 +11,8 @@ returns-clause-replay g c = (
   c.status.ensures,
   replay_of c.args.most _ c.run.new.consumer
       (g.S.Source.told c.args.source.now) (g.S.Source.told c.run.new.source)
-      (g.T.Sink.taken c.args.sink.now) (g.T.Sink.taken c.run.new.sink) c.run.result c.run.ensures.ran,
+      (g.T.Sink.taken c.args.sink.now) (g.T.Sink.taken c.run.new.sink) c.run.result
+      c.run.ensures.ran,
 )
 
 pub returns-clause-judged : goal.returns-clause-judged

@@ -11,7 +11,8 @@ use Rattle.asp_state.proofs.responder.ResponderConsumer.step.Goals as goal
 
 pub returns-then-not-self-clause-did : goal.returns-then-not-self-clause-did
 returns-then-not-self-clause-did g c = λ is first taken due went.
-    begin_did g.K.Keeper first c.args.self.now _ taken due refl refl refl refl (search rules) refl refl went
+    begin_did g.K.Keeper first c.args.self.now _ taken due refl refl refl refl
+    (search rules) refl refl went
 
 pub answer-requires-clause-message : goal.answer-requires-clause-message
 answer-requires-clause-message g c =

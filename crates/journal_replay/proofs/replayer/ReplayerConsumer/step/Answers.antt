@@ -27,7 +27,8 @@ pub returns-in-Ok-clause-did : goal.returns-in-Ok-clause-did
 returns-in-Ok-clause-did c = λ is first taken due went.
     let took = c.in-Entry.ensures.entry in (
       (
-        entry_at taken c.in-Entry.entry c.args.self.now.reader c.next.new.self c.args.self.now.checker
+        entry_at taken c.in-Entry.entry c.args.self.now.reader c.next.new.self
+            c.args.self.now.checker
             c.take.new.self took.1 went.0 (c.in-Entry.ensures.reads taken) took.2.is_whole
             c.in-Ok.ensures.first c.in-Ok.ensures.taken,
         none_more due c.args.self.now.line.items went.1 went.2,

@@ -15,7 +15,8 @@ returns-in-Done-clause-did g c = λ is first taken due went.
     (split_of g.K.Keeper c.args.self.now.held held c.as_slice.result.now c.take_line.new.self
     c.in-Some.len c.first_line.ensures.same c.as_slice.ensures c.take_line.ensures
     c.in-Some.ensures.line.1)
-    c.clear.new.self.items c.line.new.out.items c.clear.ensures.items (c.in-Done.ensures.done refl) in
+    c.clear.new.self.items c.line.new.out.items c.clear.ensures.items
+    (c.in-Done.ensures.done refl) in
     let floor = c.line.ensures.floor ∙ went.1 in (
       (
         HasRun-last g.K.Keeper c.line.new.self taken c.take_line.new.self due
