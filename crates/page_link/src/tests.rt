@@ -1,4 +1,6 @@
 //! Visits over a link in memory: what is sent, and how they end.
+ghost use Rattle.std.specs.Prelude.{◌≤◌, ◌^◌, IfOk, All};
+
 use crate::{MemoryLink, VisitEnd, run_visit};
 use asp_base::{Bytes, ListClock};
 use std::alloc::Global;
@@ -154,6 +156,17 @@ fn joined(alloc: Global, texts: &[&str]) -> Result<Vec<u8>, Fail> {
     Ok(all)
 }
 
+// The moments, each at most the latest.
+fn moments_of(alloc: Global, moments: &[u64]) -> Result<Vec<u64>, Fail>
+    ensures { IfOk result (λ all. All (λ m. m ≤ 2 ^ 62) all.items) }
+{
+    let mut all = Vec::new(alloc);
+    for moment in moments {
+        all.push((*moment).min(1 << 62))?;
+    }
+    Ok(all)
+}
+
 // An exclusive page of `/s` that keeps its item, over replies in such pieces.
 fn check<R: Abort + Wait + HostTime>(
     rt: &R,
@@ -174,11 +187,7 @@ fn check<R: Abort + Wait + HostTime>(
     let Ok(mut link) = MemoryLink::new(alloc, 4_096, incoming, piece.max(1), sends, receipts) else {
         return Err("no memory".into());
     };
-    let mut moments = Vec::new(alloc);
-    for moment in case.moments {
-        moments.push((*moment).min(1 << 62))?;
-    }
-    let mut clock = ListClock::new(moments);
+    let mut clock = ListClock::new(moments_of(alloc, case.moments)?);
     let mut visit = Visit::new(key, Need::Exclusive, limits);
     let end = run_visit(rt, alloc, &mut visit, Ending::Keep, &mut link, &mut clock);
     assert_eq!(rt; end, case.end);
