@@ -213,7 +213,8 @@ returns-in-Broken-clause-served g c =
       c.answer_held.ensures.faults,
     )) (c.end_badly-in-Broken.ensures.fault e))
 
-pub returns-in-NoMemory-answer_held-clause-served : goal.returns-in-NoMemory-answer_held-clause-served
+pub returns-in-NoMemory-answer_held-clause-served :
+    goal.returns-in-NoMemory-answer_held-clause-served
 returns-in-NoMemory-answer_held-clause-served g c =
     let before = line (g.S.Source.told c.args.source.now) (g.T.Sink.taken c.args.sink.now)
     (g.S.Source.faults c.args.source.now) (g.T.Sink.faults c.args.sink.now) in
