@@ -17,10 +17,10 @@ use Rattle.state_store.specs.Turns.{AlwaysTells}
 use Rattle.stream_server.specs.declared.worker.Worker.{Worker}
 use Rattle.stream_server.specs.Callers.{caller_with}
 use Rattle.stream_server.specs.Passes.{HasMetAll, IsFinished}
-use Rattle.stream_server.specs.Services.{HasShift, Post}
+use Rattle.stream_server.specs.Services.{HasShift}
 use Rattle.stream_server.specs.Serving.{HaveOneFront, HasServed, IsServed, IsUntouched, NoneFailedUpTo}
 use Rattle.stream_server.specs.Streams.{Caller}
-use Rattle.stream_server.specs.Workers.{Means, IsSeated, HasWorked, HaveWorked, IsUnseated, DoneUpTo, SeatedUpTo, UnseatedUpTo, TakenUpTo}
+use Rattle.stream_server.specs.Workers.{Means, IsSeated, HasWorked, HaveWorked, IsUnseated, SeatedUpTo, UnseatedUpTo, TakenUpTo}
 
 same_some : {X : Type 0} {o : Option X} (p q : X) → o ≡ Some p → o ≡ Some q → p ≡ q
 same_some p q a b = let e : Some p ≡ Some q = sym a ∙ b in cc

@@ -1,6 +1,5 @@
-use Rattle.std.proofs.Common.{ℕ, sym, subst}
+use Rattle.std.proofs.Common.{sym, subst}
 use Rattle.asp_messages.specs.declared.request.Message.{Message}
-use Rattle.asp_messages.specs.declared.request.Message.TheVariants.{Unfit}
 use Rattle.asp_messages.specs.declared.reply.Reply.TheVariants.{Bad}
 use Rattle.state_store.specs.Passes.{shards_of, caller_of, view_in, call_of}
 use Rattle.stream_server.specs.Streams.{LeavesIn, asked_for}

@@ -1,7 +1,7 @@
-use Rattle.std.proofs.Common.{ap, refl, arith, ◌<◌, length, ◌∙◌}
+use Rattle.std.proofs.Common.{ap, refl, arith, ◌∙◌}
 use Rattle.stream_server.specs.declared.worker.Worker.{Worker}
 use Rattle.stream_server.specs.Workers.{IsSeated}
-use Rattle.stream_server.proofs.WorkerLemmas.{upto-none, upto-more, upto-all}
+use Rattle.stream_server.proofs.WorkerLemmas.{upto-more, upto-all}
 use Rattle.stream_server.proofs.seating.give_passes.Goals as goal
 
 pub loop-k-preserved : goal.loop-k-preserved

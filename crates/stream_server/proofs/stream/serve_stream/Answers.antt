@@ -1,4 +1,4 @@
-use Rattle.std.proofs.Common.{◌≡◌, ◌-◌, List, ℕ, [], refl, sym, ap, ◌∙◌, subst, inl, inr, arith}
+use Rattle.std.proofs.Common.{◌-◌, List, ℕ, [], refl, sym, ap, ◌∙◌, subst, inl, inr, arith}
 use Rattle.std.specs.Prelude.{◌≢◌, Option}
 use Rattle.asp_base.proofs.OutsideLemmas.{Gives-nil}
 use Rattle.asp_messages.specs.RequestSpelling.{SpellsRequest}
@@ -6,11 +6,10 @@ use Rattle.asp_messages.specs.Stream.{HasNoMessage}
 use Rattle.asp_messages.proofs.RequestLemmas.{none_in_nothing}
 use Rattle.message_framing.specs.Held.{Held}
 use Rattle.stream_core.specs.Connection.{Connection}
-use Rattle.stream_server.specs.declared.door.StreamEnd.TheVariants as ends
 use Rattle.stream_server.specs.Callers.{caller_with}
 use Rattle.stream_server.specs.Connections.{Line}
 use Rattle.stream_server.specs.Progress.{Streaming}
-use Rattle.stream_server.specs.Streams.{Caller, most_input}
+use Rattle.stream_server.specs.Streams.{most_input}
 use Rattle.stream_server.proofs.StreamLemmas.{streaming-start, streaming-fed, streaming-on, end-long, end-no_memory, end-badly, end-unfed, end-write, hopeless-none, hopeless-some, fed_is, rose-since}
 use Rattle.stream_server.proofs.stream.serve_stream.Goals as goal
 

@@ -1,8 +1,8 @@
-use Rattle.std.proofs.Common.{◌≡◌, refl, ◌∙◌, [], subst, sym, ap}
-use Rattle.std.specs.Prelude.{IfSome, IfNone}
+use Rattle.std.proofs.Common.{refl, ◌∙◌, [], subst}
+use Rattle.std.specs.Prelude.{IfSome}
 use Rattle.stream_server.specs.Callers.{caller_with}
 use Rattle.stream_server.specs.Connections.{line_of}
-use Rattle.stream_server.specs.Doors.{HandsOut, IsShut}
+use Rattle.stream_server.specs.Doors.{HandsOut}
 use Rattle.stream_server.specs.Workers.{post_with}
 use Rattle.stream_server.proofs.ServiceLemmas.{underway-none, underway-more}
 use Rattle.stream_server.proofs.worker.serve_door.Goals as goal
