@@ -1,0 +1,68 @@
+use Rattle.std.proofs.Common.{refl, ◌∙◌, [], subst}
+use Rattle.std.specs.Prelude.{IfSome}
+use Rattle.stream_server.specs.Callers.{caller_with}
+use Rattle.stream_server.specs.Connections.{line_of}
+use Rattle.stream_server.specs.Doors.{HandsOut}
+use Rattle.stream_server.specs.Workers.{post_with}
+use Rattle.stream_server.proofs.ServiceLemmas.{underway-none, underway-more}
+use Rattle.stream_server.proofs.worker.serve_door.Goals as goal
+
+pub loop-init : goal.loop-init
+loop-init g c = record {
+  can_next = tt;
+  is_finite = tt;
+  pass = c.requires.pass;
+  caller = refl;
+  count = refl;
+  underway = ([], underway-none g.K.Keeper.told _);
+}
+
+pub loop-preserved : goal.loop-preserved
+loop-preserved g c =
+    let inv = c.loop.invariant in
+    let stream = c.serve_stream-end.ensures in
+    let swept = c.sweep.ensures in
+    let told = g.D.Door.told in
+    let store = c.args.store.now in
+    let out : HandsOut (told c.loop.door) (told c.next-in-loop.new.self)
+    (line_of (record {
+      told = g.D.Input.Source.told;
+      source_faults = g.D.Input.Source.faults;
+      taken = g.D.Output.Sink.taken;
+      sink_faults = g.D.Output.Sink.faults;
+    }) c.in-Ok-Some.conn)
+    = subst (λ o. IfSome o (λ k. HandsOut (told c.loop.door) (told c.next-in-loop.new.self)
+    (line_of (record {
+      told = g.D.Input.Source.told;
+      source_faults = g.D.Input.Source.faults;
+      taken = g.D.Output.Sink.taken;
+      sink_faults = g.D.Output.Sink.faults;
+    }) k)))
+    c.in-Ok-Some.field-0-is c.in-Ok-Some.ensures.some in
+    record {
+      can_next = tt;
+      is_finite = tt;
+      pass = swept.pass;
+      caller = swept.caller ∙ stream.caller ∙ inv.caller;
+      count = c.done.ensures.count ∙ c.in-Ok-Some.ensures.count ∙ inv.count;
+      underway = underway-more g.K.Keeper.told
+          (post_with (record { door = told; faults = g.D.Door.faults; clock = g.C.Clock.told })
+          store c.args.door.now c.args.clock.now c.args.pass.now)
+          (post_with (record { door = told; faults = g.D.Door.faults; clock = g.C.Clock.told })
+          store c.loop.door c.loop.clock c.loop.pass)
+          (post_with (record { door = told; faults = g.D.Door.faults; clock = g.C.Clock.told })
+          store c.done.new.self c.now-t.new.self c.sweep.new.pass)
+          (told c.next-in-loop.new.self) _ _ c.serve_stream-end.result
+          (caller_with store c.serve_stream-end.new.pass
+          (g.C.Clock.told c.serve_stream-end.new.clock))
+          inv.underway out c.done.ensures.back stream.served
+          (record {
+            number = swept.caller;
+            shards = refl;
+            moment = c.now-t.result;
+            gave = c.now-t.ensures.gives;
+            first_place = _;
+            count = c.sweep.result;
+            sweeps = swept.sweeps;
+          });
+    }

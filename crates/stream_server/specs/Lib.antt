@@ -1,0 +1,13 @@
+pub mod Callers
+pub mod Connections
+pub mod Doors
+pub mod InMemory
+pub mod Meeting
+pub mod Moments
+pub mod Passes
+pub mod Pieces
+pub mod Progress
+pub mod Services
+pub mod Serving
+pub mod Streams
+pub mod Workers

@@ -1,0 +1,23 @@
+//! A server of connections over a store that threads share: one stream, and workers that serve the
+//! connections of their doors.
+#![tactic(auto)]
+
+mod answering;
+mod door;
+mod meeting;
+mod memory_door;
+mod part;
+mod reading;
+mod seating;
+mod serving;
+mod stream;
+mod tcp_door;
+mod worker;
+mod writing;
+
+pub use door::{Conn, Door, StreamEnd};
+pub use memory_door::{GivenBack, MemoryDoor};
+pub use serving::{Served, serve_all};
+pub use stream::serve_stream;
+pub use tcp_door::TcpDoor;
+pub use worker::Worker;
