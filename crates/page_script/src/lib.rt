@@ -1,9 +1,9 @@
-//! Page scripts: the lines of a script, read from their text, and the world in which they run,
-//! where many pages visit one state server by a schedule.
+//! Page scripts: the lines of a script, read from their text, and the world in which they run, where
+//! many pages visit one state server by a schedule.
 #![tactic(auto)]
 
-mod laws;
 mod answering;
+mod laws;
 mod line;
 mod name;
 mod page;
