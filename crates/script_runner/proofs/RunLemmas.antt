@@ -243,7 +243,7 @@ module _ {K : Type 0} (G : keepers.Ghosts K) where
           spelled = ran.spelled;
           lines = ran.are_lines;
           run = ran.run;
-          counts = ran.stands.desk.counts;
+          counts = ran.stands.desk.stands.counts;
           stands = history_stands ran.world ran.stands;
           lawful = lawful ran.world ran.stands;
           forced = forced ran.world ran.stands;

@@ -121,7 +121,7 @@ pub record IsDrive (CanCount : ℕ → Type 0) (most : ℕ) (f : Flow)
   pub spelled : bytes ≡ script_text script ++ rest
   pub lines : AreLines script
   pub run : IsWorldRun script world output
-  pub counts : AllByRecursion (λ turn. CanCount turn.faults) world.turns
+  pub counts : AllByRecursion (λ e. CanCount e.faults) (history world.turns)
   pub stands : StandsFor nothing 0 (history world.turns) told faults
   pub lawful : IsLawfulWorld world
   pub forced : IfTold told (ForcesOldLocks world)
