@@ -15,7 +15,7 @@ pub struct Client {
 impl Client {
     /// A client that has sent nothing.
     pub fn new(alloc: Global) -> Client
-        ensures { result.reader ≡ empty_reader }
+        ensures { result.reader.bytes ≡ empty_reader }
     {
         Client {
             text: Vec::new(alloc),

@@ -29,12 +29,12 @@ pub fn ask<R, L: Link>(
     request: &Request,
     link: &mut L,
 ) -> Result<Heard, Break>
-    requires whole { client.old.reader.is_broken ≡ false }
+    requires whole { client.old.reader.bytes.is_broken ≡ false }
     ensures heard { IfOk result (Asks (L.told link.old) (L.told link.new)
-        (request_text request.now) client.old.reader.held client.new.reader.held) }
-    ensures whole { OnOk result (client.new.reader.is_broken ≡ false) }
+        (request_text request.now) client.old.reader.bytes.held client.new.reader.bytes.held) }
+    ensures whole { OnOk result (client.new.reader.bytes.is_broken ≡ false) }
     ensures none { IfErr result (AsksInVain (L.told link.old) (L.told link.new)
-        (request_text request.now) client.old.reader.held) }
+        (request_text request.now) client.old.reader.bytes.held) }
     ensures lost { result ≡ Err Break.LinkFault → Rose (L.faults link.old) (L.faults link.new) }
     ensures faults { L.faults link.old ≤ L.faults link.new }
 {

@@ -19,11 +19,11 @@ const MOST_RECEIPT: usize = 16_384;
 /// is
 /// bad: it is not whole.
 fn receive_piece<R, L: Link>(rt: &R, reader: &mut ReplyReader, link: &mut L) -> Result<(), Break>
-    requires may_feed { IsTrue reader.old.may_feed }
+    requires may_feed { IsTrue reader.old.bytes.may_feed }
     ensures fed { OnOk result ((piece : List ℕ) × (0 < length piece)
         × Receives (L.told link.old) (L.told link.new) piece
-        × (reader.new ≡ fed reader.old piece)) }
-    ensures bound { OnOk result (length reader.new.held ≤ most_held) }
+        × (reader.new.bytes ≡ fed reader.old.bytes piece)) }
+    ensures bound { OnOk result (length reader.new.bytes.held ≤ most_held) }
     ensures none { OnErr result ((piece : List ℕ)
         × Receives (L.told link.old) (L.told link.new) piece) }
     ensures end { result ≡ Err Break.BadReply → Receives (L.told link.old) (L.told link.new) []
@@ -47,11 +47,12 @@ fn receive_piece<R, L: Link>(rt: &R, reader: &mut ReplyReader, link: &mut L) -> 
 
 /// The first answer of the bytes held and those still to be received.
 pub fn hear<R, L: Link>(rt: &R, reader: &mut ReplyReader, link: &mut L) -> Result<Heard, Break>
-    requires whole { reader.old.is_broken ≡ false }
+    requires whole { reader.old.bytes.is_broken ≡ false }
     ensures heard { IfOk result (Hears (L.told link.old) (L.told link.new)
-        reader.old.held reader.new.held) }
-    ensures whole { OnOk result (reader.new.is_broken ≡ false) }
-    ensures none { IfErr result (HearsNone (L.told link.old) (L.told link.new) reader.old.held) }
+        reader.old.bytes.held reader.new.bytes.held) }
+    ensures whole { OnOk result (reader.new.bytes.is_broken ≡ false) }
+    ensures none { IfErr result (HearsNone (L.told link.old) (L.told link.new)
+        reader.old.bytes.held) }
     ensures lost { result ≡ Err Break.LinkFault → Rose (L.faults link.old) (L.faults link.new) }
     ensures faults { L.faults link.old ≤ L.faults link.new }
 {

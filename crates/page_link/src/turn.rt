@@ -27,28 +27,28 @@ pub fn take_turn<R: HostTime, L: Link, C: Clock>(
     clock: &mut C,
 ) -> Option<VisitEnd>
     requires may_turn { MayTurn visit.old ending.old }
-    requires whole { client.old.reader.is_broken ≡ false }
+    requires whole { client.old.reader.bytes.is_broken ≡ false }
     ensures on { IfNone result ((page : Ending) (before : Scene)
         → IsUnderway page before (record {
           visit = visit.old;
           link = L.told link.old;
           clock =
               C.told clock.old;
-        }) ending.old client.old.reader.held
+        }) ending.old client.old.reader.bytes.held
         → IsUnderway page before (record {
           visit = visit.new;
           link = L.told link.new;
           clock =
               C.told clock.new;
-        }) ending.new client.new.reader.held) }
-    ensures whole { IfNone result (client.new.reader.is_broken ≡ false) }
+        }) ending.new client.new.reader.bytes.held) }
+    ensures whole { IfNone result (client.new.reader.bytes.is_broken ≡ false) }
     ensures end { IfSome result (λ end. (page : Ending) (before : Scene)
         → IsUnderway page before (record {
           visit = visit.old;
           link = L.told link.old;
           clock =
               C.told clock.old;
-        }) ending.old client.old.reader.held
+        }) ending.old client.old.reader.bytes.held
         → IsVisit page before (record {
           visit = visit.new;
           link = L.told link.new;

@@ -7,8 +7,8 @@ use Rattle.page_link.proofs.hearing.hear.Given as goal
 abbrev pub invariant-loop-reply : goal.invariant-loop-reply
 invariant-loop-reply g l =
     ((received : List ℕ) × Receives (g.L.Link.told l.initial.link) (g.L.Link.told l.link) received
-    × IsFed l.initial.reader l.reader received)
+    × IsFed l.initial.reader.bytes l.reader.bytes received)
     × (g.L.Link.faults l.initial.link ≤ g.L.Link.faults l.link)
 
 abbrev pub decreases-loop-reply : goal.decreases-loop-reply
-decreases-loop-reply g l = most_held - length l.reader.held
+decreases-loop-reply g l = most_held - length l.reader.bytes.held

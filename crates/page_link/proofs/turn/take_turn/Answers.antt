@@ -15,7 +15,7 @@ returns-in-Over-clause-end g c page before run =
     let acts = c.in-Over.ensures.act in
     ended-over page before c.args.visit.now c.args.visit.now (g.L.Link.told c.args.link.now)
     (g.L.Link.told c.args.link.now) (g.C.Clock.told c.args.clock.now)
-    (g.C.Clock.told c.now-now.new.self) c.args.ending.now c.args.client.now.reader.held
+    (g.C.Clock.told c.now-now.new.self) c.args.ending.now c.args.client.now.reader.bytes.held
     c.now-now.result
     run c.now-now.ensures.gives c.in-Over.outcome.now
     (λ fault. no_fault c.args.visit.now.terms may.past c.now-now.result may.linked
@@ -39,18 +39,18 @@ unreachable-requires g c =
 pub heard-requires-clause-fits : goal.heard-requires-clause-fits
 heard-requires-clause-fits g c =
     asks-fits (g.L.Link.told c.args.link.now) (g.L.Link.told c.ask.new.link) _
-    c.args.client.now.reader.held c.ask.new.client.reader.held c.in-Ok.heard
+    c.args.client.now.reader.bytes.held c.ask.new.client.reader.bytes.held c.in-Ok.heard
     c.in-Ok.ensures.heard
 
 pub returns-in-Err-BadReply-clause-end : goal.returns-in-Err-BadReply-clause-end
 returns-in-Err-BadReply-clause-end g c page before run =
     ended-bad page before c.args.visit.now c.args.visit.now (g.L.Link.told c.args.link.now)
     (g.L.Link.told c.ask.new.link) (g.C.Clock.told c.args.clock.now)
-    (g.C.Clock.told c.now-now.new.self) c.args.ending.now c.args.client.now.reader.held
+    (g.C.Clock.told c.now-now.new.self) c.args.ending.now c.args.client.now.reader.bytes.held
     c.now-now.result
     run c.now-now.ensures.gives c.in-Send.request.now
     (subst (AsksInVain (g.L.Link.told c.args.link.now) (g.L.Link.told c.ask.new.link)
-    (request_text c.in-Send.request.now) c.args.client.now.reader.held)
+    (request_text c.in-Send.request.now) c.args.client.now.reader.bytes.held)
     c.in-Err-BadReply.field-0-is c.in-Err-BadReply.ensures.none)
     c.in-Send.ensures.act
 
@@ -58,11 +58,11 @@ pub returns-in-Err-NoMemory-clause-end : goal.returns-in-Err-NoMemory-clause-end
 returns-in-Err-NoMemory-clause-end g c page before run =
     ended-no_memory page before c.args.visit.now c.args.visit.now (g.L.Link.told c.args.link.now)
     (g.L.Link.told c.ask.new.link) (g.C.Clock.told c.args.clock.now)
-    (g.C.Clock.told c.now-now.new.self) c.args.ending.now c.args.client.now.reader.held
+    (g.C.Clock.told c.now-now.new.self) c.args.ending.now c.args.client.now.reader.bytes.held
     c.now-now.result
     run c.now-now.ensures.gives c.in-Send.request.now
     (subst (AsksInVain (g.L.Link.told c.args.link.now) (g.L.Link.told c.ask.new.link)
-    (request_text c.in-Send.request.now) c.args.client.now.reader.held)
+    (request_text c.in-Send.request.now) c.args.client.now.reader.bytes.held)
     c.in-Err-NoMemory.field-0-is c.in-Err-NoMemory.ensures.none)
     c.in-Send.ensures.act
 
@@ -70,11 +70,11 @@ pub returns-in-Err-LinkFault-clause-end : goal.returns-in-Err-LinkFault-clause-e
 returns-in-Err-LinkFault-clause-end g c page before run =
     ended-lost page before c.args.visit.now c.lost_link.new.self (g.L.Link.told c.args.link.now)
     (g.L.Link.told c.ask.new.link) (g.C.Clock.told c.args.clock.now)
-    (g.C.Clock.told c.now-now.new.self) c.args.ending.now c.args.client.now.reader.held
+    (g.C.Clock.told c.now-now.new.self) c.args.ending.now c.args.client.now.reader.bytes.held
     c.now-now.result
     run c.now-now.ensures.gives c.in-Send.request.now
     (subst (AsksInVain (g.L.Link.told c.args.link.now) (g.L.Link.told c.ask.new.link)
-    (request_text c.in-Send.request.now) c.args.client.now.reader.held)
+    (request_text c.in-Send.request.now) c.args.client.now.reader.bytes.held)
     c.in-Err-LinkFault.field-0-is c.in-Err-LinkFault.ensures.none)
     c.in-Send.ensures.act c.lost_link.ensures.terms c.lost_link.ensures.past
 
@@ -83,7 +83,7 @@ returns-in-WaitUntil-clause-on g c page before run =
     went-paused page before c.args.visit.now c.args.visit.now (g.L.Link.told c.args.link.now)
     (g.L.Link.told c.pause.new.self) (g.C.Clock.told c.args.clock.now)
     (g.C.Clock.told c.now-now.new.self) c.args.ending.now c.args.ending.now
-    c.args.client.now.reader.held c.args.client.now.reader.held c.now-now.result
+    c.args.client.now.reader.bytes.held c.args.client.now.reader.bytes.held c.now-now.result
     run c.now-now.ensures.gives c.in-WaitUntil.until c.pause.ensures.told c.in-WaitUntil.ensures.act
 
 pub returns-in-Some-clause-on : goal.returns-in-Some-clause-on
@@ -92,7 +92,7 @@ returns-in-Some-clause-on g c page before run =
     (went-ran page before c.args.visit.now c.finish.new.self (g.L.Link.told c.args.link.now)
     (g.L.Link.told c.args.link.now) (g.C.Clock.told c.args.clock.now)
     (g.C.Clock.told c.now-now.new.self) c.args.ending.now c.args.ending.now
-    c.args.client.now.reader.held c.args.client.now.reader.held c.now-now.result
+    c.args.client.now.reader.bytes.held c.args.client.now.reader.bytes.held c.now-now.result
     run c.now-now.ensures.gives c.in-Some.ending (sym c.in-Some.is
     ∙ c.take.ensures.value) c.finish.ensures.terms c.finish.ensures.past c.finish.ensures.steps
     (λ past stands. subst IsToRun (c.in-Run.ensures.act past stands) tt))
@@ -102,7 +102,7 @@ returns-in-Ok-clause-on g c page before run =
     went-asked page before c.args.visit.now c.heard.new.self (g.L.Link.told c.args.link.now)
     (g.L.Link.told c.ask.new.link) (g.C.Clock.told c.args.clock.now)
     (g.C.Clock.told c.now-now.new.self) c.args.ending.now c.args.ending.now
-    c.args.client.now.reader.held c.ask.new.client.reader.held c.now-now.result
+    c.args.client.now.reader.bytes.held c.ask.new.client.reader.bytes.held c.now-now.result
     run c.now-now.ensures.gives c.in-Send.request.now c.in-Ok.heard c.in-Ok.ensures.heard
     c.heard.ensures.terms
     (λ past stands. c.heard.ensures.past past c.in-Send.request.now stands

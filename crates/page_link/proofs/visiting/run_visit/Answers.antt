@@ -14,7 +14,7 @@ loop-init g c = (
   tt,
   tt,
   not_begun c.args.ending c.args.visit.now (g.L.Link.told c.args.link.now)
-      (g.C.Clock.told c.args.clock.now) c.new-client.result.reader.held c.requires.new
+      (g.C.Clock.told c.args.clock.now) c.new-client.result.reader.bytes.held c.requires.new
       (ap (λ (h : Held). h.held) c.new-client.ensures),
   ap (λ (h : Held). h.is_broken) c.new-client.ensures,
   omega arith,
@@ -33,8 +33,8 @@ take_turn-requires-clause-may_turn g c =
       clock =
           g.C.Clock.told c.loop.clock;
     } in
-    may_turn c.args.ending before now c.loop.ending c.loop.client.reader.held c.loop.invariant.2
-    c.requires.fits
+    may_turn c.args.ending before now c.loop.ending c.loop.client.reader.bytes.held
+    c.loop.invariant.2 c.requires.fits
 
 pub returns-in-Some-take_turn-clause-complete : goal.returns-in-Some-take_turn-clause-complete
 returns-in-Some-take_turn-clause-complete g c tells kept =

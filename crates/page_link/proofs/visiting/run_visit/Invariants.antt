@@ -13,6 +13,6 @@ invariant-loop g l =
           g.C.Clock.told l.fn.clock;
     })
     (record { visit = l.visit; link = g.L.Link.told l.link; clock = g.C.Clock.told l.clock })
-    l.ending l.client.reader.held
-    × (l.client.reader.is_broken ≡ false)
+    l.ending l.client.reader.bytes.held
+    × (l.client.reader.bytes.is_broken ≡ false)
     × (g.L.Link.faults l.fn.link ≤ g.L.Link.faults l.link)
