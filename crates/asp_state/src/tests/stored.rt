@@ -1,7 +1,7 @@
 //! Runs over a database, and the word PATH.
 use super::{DONE, FOUND, PIPE, WRITE_AND_READ, joined, sink, source};
 use crate::path::path_of;
-use crate::runs::run_pipe;
+use crate::pipe_run::run_pipe;
 use asp_base::MemorySink;
 use sqlite::{Connection, MemStore};
 use sqlite_keeper::SqliteKeeper;
