@@ -8,6 +8,7 @@ mod pipe;
 mod pipe_run;
 mod responder;
 mod storing;
+mod visiting;
 mod words;
 
 use asp_base::{HostSink, HostSource};
@@ -17,6 +18,8 @@ use path::path_of;
 use std::process::ExitCode;
 use std::{env, io};
 use storing::run_stored;
+use visit_command::visit_port;
+use visiting::run_visiting;
 
 /// The status where the words are none of the table of commands.
 const NO_COMMAND: u8 = 2;
@@ -47,8 +50,11 @@ fn main(rt: HostRuntime) -> ExitCode {
         Ok(words) => words,
         Err(status) => return ExitCode::from(status),
     };
-    let mut source = HostSource::new(rt.stdin());
     let mut sink = HostSink::new(rt.stdout());
+    if let Some(port) = visit_port(&words) {
+        return ExitCode::from(run_visiting(&rt, alloc, port, &words, &mut sink));
+    }
+    let mut source = HostSource::new(rt.stdin());
     let status = match path_of(&words) {
         Some(path) => run_stored(&rt, path, &words, &mut source, &mut sink),
         None => {

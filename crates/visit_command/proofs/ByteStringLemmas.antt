@@ -1,0 +1,58 @@
+-- Byte strings are read as they are judged.
+use Rattle.std.proofs.Common.{◌≡◌, ℕ, suc, ◌+◌, ◌/◌, ◌%◌, Bool, true, false, List, [], ◌∷◌, length, Option, Some, Ok, refl, ap, ◌∙◌, arith}
+use Rattle.std.specs.Prelude.{◌&&◌, ◌==◌, ◌≤◌, ◌<◌, nat_le, drop, slice_index}
+use Rattle.std.specs.List.{list_all}
+use Rattle.std.proofs.lemmas.Bool.{and_parts}
+use Rattle.std.proofs.lemmas.Bool.Decides.{nat_tests}
+use Rattle.hex.specs.Hex.{decode_of, decode_pairs, hex_digit_value}
+use Rattle.hex.proofs.HexLemmas.{decode_of-even}
+use Rattle.visit_command.specs.Words.{is_digit, are_digits, digit_value, bytes_of_digits, byte_string}
+
+digit_is : (c : ℕ) → is_digit c ≡ true → hex_digit_value c ≡ Some (digit_value c)
+digit_is c digit = grind (arith, nat_tests)
+
+pairs_decode : (i : ℕ) (digits : List ℕ) → length digits % 2 ≡ 0 → list_all is_digit digits ≡ true
+    → decode_pairs i digits ≡ Ok (bytes_of_digits digits)
+unfolding decode_pairs bytes_of_digits
+pairs_decode i [] even all = refl
+pairs_decode i (a ∷ []) even all = absurd (omega arith)
+pairs_decode i (a ∷ b ∷ rest) even all =
+    let first = and_parts (is_digit a) (list_all is_digit (b ∷ rest)) all in
+    let second = and_parts (is_digit b) (list_all is_digit rest) first.1 in
+    let high = digit_is a first.0 in
+    let low = digit_is b second.0 in
+    let others = pairs_decode (i + 2) rest (omega arith) second.1 in
+    rw (high, low, others) refl
+
+-- digits of whole bytes spell these bytes
+pub digits_decode : (digits : List ℕ) → length digits % 2 ≡ 0 → list_all is_digit digits ≡ true
+    → decode_of digits ≡ Ok (bytes_of_digits digits)
+digits_decode digits even all = decode_of-even digits even ∙ pairs_decode 0 digits even all
+
+pub length-bytes_of_digits : (digits : List ℕ) → length (bytes_of_digits digits) ≡ length digits / 2
+unfolding bytes_of_digits
+length-bytes_of_digits [] = refl
+length-bytes_of_digits (a ∷ []) = refl
+length-bytes_of_digits (a ∷ b ∷ rest) = omega (arith, length-bytes_of_digits rest)
+
+-- what was decoded of digits is what they spell, of at most so many bytes
+pub decoded_is : (digits bytes : List ℕ) (most : ℕ) → are_digits digits most ≡ true
+    → decode_of digits ≡ Ok bytes → (bytes ≡ bytes_of_digits digits) × (length bytes ≤ most)
+decoded_is digits bytes most good decoded =
+    let parts = and_parts (nat_le (length digits / 2) most && length digits % 2 == 0)
+    (list_all is_digit digits) good in
+    let tests = and_parts (nat_le (length digits / 2) most) (length digits % 2 == 0) parts.0 in
+    let even : length digits % 2 ≡ 0 = grind (arith, nat_tests) in
+    let same : bytes ≡ bytes_of_digits digits = cc (decoded, digits_decode digits even parts.1) in
+    (same, grind (arith, nat_tests, length-bytes_of_digits digits))
+
+-- a word is `x` and digits that were decoded
+pub string_read : (word bytes : List ℕ) (most : ℕ) → 0 < length word → slice_index word 0 ≡ 120
+    → are_digits (drop 1 word) most ≡ true → decode_of (drop 1 word) ≡ Ok bytes
+    → (Some bytes ≡ byte_string word most) × (length bytes ≤ most)
+unfolding byte_string
+string_read [] bytes most some first good decoded = absurd (omega arith)
+string_read (x ∷ digits) bytes most some first good decoded =
+    let is = decoded_is digits bytes most good decoded in
+    let test : x == 120 ≡ true = grind (arith, nat_tests) in
+    (rw (test, good, is.0) refl, is.1)

@@ -1,0 +1,2 @@
+pub mod ByteStringLemmas
+mod KeyLemmas

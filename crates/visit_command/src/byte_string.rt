@@ -1,0 +1,49 @@
+//! Byte strings, judged without memory and read.
+ghost use Rattle.std.specs.Prelude.{◌≡◌, ◌≤◌, IfOk, IfSome, is_some, length};
+ghost use Rattle.std.specs.List.{list_all};
+ghost use Rattle.visit_command.specs.Words.{is_digit, are_digits, byte_string};
+
+use asp_base::{Bytes, NoMemory};
+use std::alloc::Global;
+
+fn all_digits(digits: &[u8]) -> bool
+    ensures { result ≡ list_all is_digit digits.now }
+{
+    digits.iter().all(|c| (b'0' <= *c && *c <= b'9') || (b'a' <= *c && *c <= b'f'))
+}
+
+fn are_digits(digits: &[u8], most: usize) -> bool
+    ensures { result ≡ are_digits digits.now most }
+{
+    digits.len() / 2 <= most && digits.len() % 2 == 0 && all_digits(digits)
+}
+
+/// Whether the word spells bytes, at most `most`. It takes no memory.
+#[tactic(auto, unfolding(crate::specs::Words::byte_string))]
+pub fn is_byte_string(word: &[u8], most: usize) -> bool
+    ensures { result ≡ is_some (byte_string word.now most) }
+{
+    let [first, digits @ ..] = word else {
+        return false;
+    };
+    *first == b'x' && are_digits(digits, most)
+}
+
+/// The bytes that the word spells, at most `most`; `None` exactly where it spells none. The only
+/// error is want of memory.
+#[tactic(auto, unfolding(crate::specs::Words::byte_string))]
+pub fn read_byte_string(alloc: Global, word: &[u8], most: usize) -> Result<Option<Bytes>, NoMemory>
+    ensures value { IfOk result (λ bytes. bytes ≡ byte_string word.now most) }
+    ensures short { IfOk result (λ bytes. IfSome bytes (λ b. length b ≤ most)) }
+{
+    let [first, digits @ ..] = word else {
+        return Ok(None);
+    };
+    if *first != b'x' || !are_digits(digits, most) {
+        return Ok(None);
+    }
+    match hex::decode(alloc, digits) {
+        Ok(bytes) => Ok(Some(Bytes::adopt(bytes))),
+        Err(_) => Err(NoMemory),
+    }
+}

@@ -1,0 +1,178 @@
+//! The words of `visit`.
+ghost use Rattle.std.specs.Prelude.{◌≡◌, ◌<◌, ◌≤◌, is_some, map, string_bytes, IfOk, IfSome, length};
+ghost use Rattle.asp_messages.specs.Ranges.{KeyFits, MinutesFit};
+ghost use Rattle.visit_core.specs.Terms.{EndingFits};
+ghost use Rattle.visit_command.specs.Words.{port_of, key_of, need_of, minutes_of, bare_ending, ending_of, visit_of, port_in, PageWordsFit};
+
+use crate::byte_string::{is_byte_string, read_byte_string};
+use asp_base::{Bytes, NoMemory, read_number};
+use asp_messages::{MOST_BODY, MOST_KEY, MOST_MINUTES};
+use std::alloc::Global;
+use visit_core::{Ending, Need};
+
+/// The greatest number of a port.
+const LAST_PORT: u64 = 65_535;
+
+/// What the words of `visit` say.
+#[derive(Debug, Drop)]
+pub struct PageWords {
+    /// The server's port on the machine itself, 1 to 65,535.
+    pub port: u64,
+    /// The session's key, 1 to 1,024 bytes.
+    pub key: Bytes,
+    /// What the page needs of the session.
+    pub need: Need,
+    /// How the page ends.
+    pub ending: Ending,
+}
+
+fn port_of(word: &[u8]) -> Option<u64>
+    ensures value { result ≡ port_of word.now }
+    ensures fits { IfSome result (λ port. (0 < port) × (port ≤ 65535)) }
+{
+    let port = read_number(word, LAST_PORT)?;
+    if port > 0 { Some(port) } else { None }
+}
+
+fn need_of(word: &str) -> Option<Need>
+    ensures { result ≡ need_of word.now }
+{
+    if word == "exclusive" {
+        return Some(Need::Exclusive);
+    }
+    if word == "readonly" {
+        return Some(Need::ReadOnly);
+    }
+    if word == "off" {
+        return Some(Need::Off);
+    }
+    None
+}
+
+fn minutes_of(word: &[u8]) -> Option<u64>
+    ensures value { result ≡ minutes_of word.now }
+    ensures fits { IfSome result MinutesFit }
+{
+    if !word.is_empty() && word[0] == b'0' {
+        return None;
+    }
+    let minutes = read_number(word, MOST_MINUTES)?;
+    if minutes > 0 { Some(minutes) } else { None }
+}
+
+fn is_key(word: &[u8]) -> bool
+    ensures { result ≡ is_some (key_of word.now) }
+{
+    word.len() > 1 && is_byte_string(word, MOST_KEY)
+}
+
+fn read_key(alloc: Global, word: &[u8]) -> Result<Option<Bytes>, NoMemory>
+    ensures value { IfOk result (λ key. key ≡ key_of word.now) }
+    ensures fits { IfOk result (λ key. IfSome key KeyFits) }
+{
+    match read_byte_string(alloc, word, MOST_KEY)? {
+        Some(key) if !key.as_slice().is_empty() => Ok(Some(key)),
+        _ => Ok(None),
+    }
+}
+
+fn bare_ending(word: &str) -> Option<Ending>
+    ensures value { result ≡ bare_ending word.now }
+    ensures fits { IfSome result EndingFits }
+{
+    if word == "keep" {
+        return Some(Ending::Keep);
+    }
+    if word == "abandon" {
+        return Some(Ending::Abandon);
+    }
+    None
+}
+
+#[tactic(auto, unfolding(crate::specs::Words::ending_of))]
+fn is_ending(words: &[String]) -> bool
+    ensures { result ≡ is_some (ending_of (map string_bytes words.now)) }
+{
+    match words {
+        [word] => bare_ending(word.as_str()).is_some(),
+        [name, minutes, body] => {
+            name.as_str() == "save"
+                && minutes_of(minutes.as_bytes()).is_some()
+                && is_byte_string(body.as_bytes(), MOST_BODY as usize)
+        }
+        _ => false,
+    }
+}
+
+#[tactic(auto, unfolding(crate::specs::Words::ending_of))]
+fn read_ending(alloc: Global, words: &[String]) -> Result<Option<Ending>, NoMemory>
+    ensures value { IfOk result (λ ending. ending ≡ ending_of (map string_bytes words.now)) }
+    ensures fits { IfOk result (λ ending. IfSome ending EndingFits) }
+{
+    match words {
+        [word] => Ok(bare_ending(word.as_str())),
+        [name, minutes, body] => {
+            if name.as_str() != "save" {
+                return Ok(None);
+            }
+            let Some(minutes) = minutes_of(minutes.as_bytes()) else {
+                return Ok(None);
+            };
+            match read_byte_string(alloc, body.as_bytes(), MOST_BODY as usize)? {
+                Some(body) => Ok(Some(Ending::Save { body, minutes })),
+                None => Ok(None),
+            }
+        }
+        _ => Ok(None),
+    }
+}
+
+/// The port in the words of `visit PORT KEY NEED ENDING`; `None` exactly where the words are none
+/// of `visit`. They are judged without memory.
+#[tactic(auto, unfolding(crate::specs::Words::visit_of))]
+pub fn visit_port(words: &[String]) -> Option<u64>
+    ensures { result ≡ port_in (visit_of (map string_bytes words.now)) }
+{
+    let [name, port, key, need, ending @ ..] = words else {
+        return None;
+    };
+    let port = port_of(port.as_bytes())?;
+    let is_page = name.as_str() == "visit"
+        && is_key(key.as_bytes())
+        && need_of(need.as_str()).is_some()
+        && is_ending(ending);
+    if is_page { Some(port) } else { None }
+}
+
+/// What the words of `visit` say; `None` exactly where they are none. The only error is want of
+/// memory.
+#[tactic(auto, unfolding(crate::specs::Words::visit_of))]
+pub fn read_visit(alloc: Global, words: &[String]) -> Result<Option<PageWords>, NoMemory>
+    ensures value { IfOk result (λ page. page ≡ visit_of (map string_bytes words.now)) }
+    ensures fits { IfOk result (λ page. IfSome page PageWordsFit) }
+{
+    let [name, port, key, need, ending @ ..] = words else {
+        return Ok(None);
+    };
+    if name.as_str() != "visit" {
+        return Ok(None);
+    }
+    let Some(port) = port_of(port.as_bytes()) else {
+        return Ok(None);
+    };
+    let Some(key) = read_key(alloc, key.as_bytes())? else {
+        return Ok(None);
+    };
+    let Some(need) = need_of(need.as_str()) else {
+        return Ok(None);
+    };
+    let Some(ending) = read_ending(alloc, ending)? else {
+        return Ok(None);
+    };
+    Ok(Some(PageWords {
+        port,
+        key,
+        need,
+        ending,
+    }))
+}
