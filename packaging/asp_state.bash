@@ -1,0 +1,16 @@
+# Completion of asp_state's words for bash.
+_asp_state() {
+    local word=${COMP_WORDS[COMP_CWORD]}
+    local command=${COMP_WORDS[1]}
+    if [ "$COMP_CWORD" -eq 1 ]; then
+        mapfile -t COMPREPLY < <(compgen -W 'serve visit pipe trace replay drive load id --help --version' -- "$word")
+        return
+    fi
+    case $command:$COMP_CWORD in
+        pipe:5 | trace:5 | drive:2) mapfile -t COMPREPLY < <(compgen -f -- "$word") ;;
+        visit:4) mapfile -t COMPREPLY < <(compgen -W 'exclusive readonly off' -- "$word") ;;
+        visit:5) mapfile -t COMPREPLY < <(compgen -W 'save keep abandon' -- "$word") ;;
+        *) COMPREPLY=() ;;
+    esac
+}
+complete -F _asp_state asp_state
