@@ -1,5 +1,6 @@
 -- What locks give, in every legal history.
 use Rattle.std.specs.Prelude.{◌≡◌, ◌≢◌, ℕ, List, [], ◌∷◌, ◌++◌, Option, Some, None, Bool, true, false, IsTrue, ⊤}
+use Rattle.std.specs.List.{AllByRecursion}
 use Rattle.asp_messages.specs.declared.request.Ask.{Ask}
 use Rattle.asp_messages.specs.declared.request.Ask.TheVariants.{Read, Acquire, Release, Write, Remove}
 use Rattle.asp_messages.specs.declared.reply.Reply.{Reply}
@@ -173,3 +174,13 @@ pub record LocksHold (opening : List ℕ → Option Item) (count : ℕ) (list : 
   pub in_force_is_done : InForceIsDone opening count list
   pub no_update_is_lost : NoUpdateIsLost opening count list
   pub nobody_else : NobodyElse opening count list
+
+-- ---- faults of a keeper
+
+-- no entry is answered that the keeper failed
+abbrev pub NeverFaults : List Entry → Type 0
+NeverFaults list = AllByRecursion (λ e. e.reply ≢ KeeperFault) list
+
+-- Where the keeper has counted no fault at any entry, none is answered that it failed.
+abbrev pub FaultsAreCounted : List Entry → Type 0
+FaultsAreCounted list = AllByRecursion (λ e. e.faults ≡ 0) list → NeverFaults list
