@@ -69,3 +69,11 @@ never items (e ∷ es) lead looks none =
 pub faults-counted : (opening : List ℕ → Option Item) (list : List Entry) → IsLegal opening 0 list
     → FaultsAreCounted list
 faults-counted opening list legal = never opening list legal.keys legal.looks
+
+-- a type of keepers that never counts has no counts but 0 in its entries
+pub no-counts : (CanCount : ℕ → Type 0) (list : List Entry)
+    → AllByRecursion (λ e. CanCount e.faults) list → ((count : ℕ) → CanCount count → count ≡ 0)
+    → AllByRecursion (λ e. e.faults ≡ 0) list
+no-counts CanCount [] counts never = tt
+no-counts CanCount (e ∷ es) counts never =
+    (never e.faults counts.0, no-counts CanCount es counts.1 never)
