@@ -4,7 +4,7 @@ use Rattle.std.specs.Prelude.{IfSome}
 use Rattle.std.specs.List.{AllByRecursion}
 use Rattle.asp_messages.specs.declared.request.Request.{Request}
 use Rattle.asp_messages.specs.declared.reply.Reply.{Reply}
-use Rattle.cookie_source.specs.Counting.{Counter, counter_after}
+use Rattle.cookie_source.specs.Counting.{counter_after}
 use Rattle.session_machine.specs.declared.entry.Entry.{Entry}
 use Rattle.session_machine.specs.declared.item.Item.{Item}
 use Rattle.session_machine.specs.declared.item.Hold.{Hold}
@@ -15,7 +15,7 @@ use Rattle.shard_core.specs.declared.shard.Swept.TheVariants as swept
 use Rattle.shard_core.specs.Standing.{StandsFor, asked_entry}
 use Rattle.shard_core.specs.Sweeping.{swept_entry, swept_deed}
 use Rattle.desk.specs.Draws.{DrawsNext, draw_of, draws, deed_draws, draws_in}
-use Rattle.desk.specs.Standing.{DeskStandsFor}
+use Rattle.desk.specs.Standing.{DeskState, DeskStandsFor}
 
 pub draws_in-push : (es : List Entry) (e : Entry)
     → draws_in (es ++ e ∷ []) ≡ draws_in es + deed_draws e.deed
@@ -51,43 +51,42 @@ fresh_draw opening es next (suc n) above all held =
     )
 
 module _ (CanCount : ℕ → Type 0) (first : ℕ) (opening : List ℕ → Option Item) (count : ℕ)
-    (list : List Entry)
-    (told told' : Option (List ℕ → Option Item)) (now now' : ℕ) (cookies : Counter)
-    (stand : DeskStandsFor CanCount first opening count list told now cookies) (can : CanCount now')
+    (list : List Entry) (old new : DeskState)
+    (stand : DeskStandsFor CanCount first opening count list old) (can : CanCount new.faults)
   where
     -- a request was answered, and drew its cookie by counting
-    pub goes_on-asked : (cookies' : Counter) (caller t drawn : ℕ) (r : Request) (reply : Reply)
-        → DrawsNext cookies cookies' r.ask drawn
-        → (IsFreshDraw opening list drawn → StandsFor opening count list told now
-        → StandsFor opening count (list ++ asked_entry caller t r drawn reply now' ∷ []) told'
-        now')
-        → (drawn ≡ draw_of first cookies.last (draws_in list) r.ask)
+    pub goes_on-asked : (caller t drawn : ℕ) (r : Request) (reply : Reply)
+        → DrawsNext old.cookies new.cookies r.ask drawn
+        → (IsFreshDraw opening list drawn → StandsFor opening count list old.told old.faults
+        → StandsFor opening count (list ++ asked_entry caller t r drawn reply new.faults ∷ [])
+        new.told new.faults)
+        → (drawn ≡ draw_of first old.cookies.last (draws_in list) r.ask)
         × DeskStandsFor CanCount first opening count
-        (list ++ asked_entry caller t r drawn reply now' ∷ []) told' now' cookies'
-    goes_on-asked cookies' caller t drawn r reply drew history = (
+        (list ++ asked_entry caller t r drawn reply new.faults ∷ []) new
+    goes_on-asked caller t drawn r reply drew history = (
       drawn_is,
       record {
-        stands = history (fresh_draw opening list cookies.next drawn drew.above stand.drawn
+        stands = history (fresh_draw opening list old.cookies.next drawn drew.above stand.drawn
             stand.held) stand.stands;
         counts = All-push (λ (f : Entry). CanCount f.faults) list entry stand.counts can;
         next = nth.1 ∙ ap (λ l. counter_after first l (draws_in list + draws r.ask)) (sym drew.last)
-            ∙ ap (counter_after first cookies'.last) (sym (draws_in-push list entry));
+            ∙ ap (counter_after first new.cookies.last) (sym (draws_in-push list entry));
         some = let last = drew.last in let low = stand.some in omega (arith, last, low);
-        drawn = All-push (λ (f : Entry). f.drawn < cookies'.next) list entry
-            (below_more list cookies.next cookies'.next drew.rises stand.drawn) drew.below;
-        held = λ key. held_more (opening key) cookies.next cookies'.next drew.rises
+        drawn = All-push (λ (f : Entry). f.drawn < new.cookies.next) list entry
+            (below_more list old.cookies.next new.cookies.next drew.rises stand.drawn) drew.below;
+        held = λ key. held_more (opening key) old.cookies.next new.cookies.next drew.rises
             (stand.held key);
       },
     )
       where
         entry : Entry
-        entry = asked_entry caller t r drawn reply now'
+        entry = asked_entry caller t r drawn reply new.faults
 
-        nth : (drawn ≡ draw_of first cookies.last (draws_in list) r.ask)
-            × (cookies'.next ≡ counter_after first cookies.last (draws_in list + draws r.ask))
+        nth : (drawn ≡ draw_of first old.cookies.last (draws_in list) r.ask)
+            × (new.cookies.next ≡ counter_after first old.cookies.last (draws_in list + draws r.ask))
         nth = drew.nth first (draws_in list) stand.some stand.next
 
-        drawn_is : drawn ≡ draw_of first cookies.last (draws_in list) r.ask
+        drawn_is : drawn ≡ draw_of first old.cookies.last (draws_in list) r.ask
         drawn_is = nth.0
 
     swept_draws_none : (s : Swept) → deed_draws (swept_deed s) ≡ 0
@@ -97,21 +96,22 @@ module _ (CanCount : ℕ → Type 0) (first : ℕ) (opening : List ℕ → Optio
     swept_draws_none swept.NoMemory = refl
 
     -- somebody looked for an expired item
-    pub goes_on-swept : (caller t : ℕ) (s : Swept) → 0 < cookies.next
-        → StandsFor opening count (list ++ swept_entry caller t s now' ∷ []) told' now'
-        → DeskStandsFor CanCount first opening count (list ++ swept_entry caller t s now' ∷ [])
-        told' now' cookies
+    pub goes_on-swept : (caller t : ℕ) (s : Swept) → 0 < old.cookies.next
+        → StandsFor opening count (list ++ swept_entry caller t s new.faults ∷ []) new.told
+        new.faults
+        → DeskStandsFor CanCount first opening count
+        (list ++ swept_entry caller t s new.faults ∷ []) (record new { cookies = old.cookies })
     goes_on-swept caller t s some stands = record {
       stands = stands;
       counts = All-push (λ (f : Entry). CanCount f.faults) list entry stand.counts can;
       next =
           let more = draws_in-push list entry in
           let none = swept_draws_none s in
-          stand.next ∙ ap (counter_after first cookies.last) (omega (arith, more, none));
+          stand.next ∙ ap (counter_after first old.cookies.last) (omega (arith, more, none));
       some = stand.some;
-      drawn = All-push (λ (f : Entry). f.drawn < cookies.next) list entry stand.drawn some;
+      drawn = All-push (λ (f : Entry). f.drawn < old.cookies.next) list entry stand.drawn some;
       held = stand.held;
     }
       where
         entry : Entry
-        entry = swept_entry caller t s now'
+        entry = swept_entry caller t s new.faults

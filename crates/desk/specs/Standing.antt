@@ -13,15 +13,29 @@ pub record DeskOf (K : Type 0) : Type 0 where
   pub keeper : K
   pub cookies : Counter
 
--- What a desk's keeper tells and counts (told, now) are those after the history, each of whose
--- counts of faults is one that a keeper of the type can have; and the cookies drawn in it are those
--- from the first on, in order. None of the cookies left was drawn, or is held in the opening map.
+-- What a desk's keeper tells, how many faults it has counted, and the cookies that are left.
+pub record DeskState : Type 0 where
+  pub told : Option (List ℕ → Option Item)
+  pub faults : ℕ
+  pub cookies : Counter
+
+-- the state of a desk, whose keeper tells and counts so
+abbrev pub state_of : {K : Type 0} → (K → Option (List ℕ → Option Item)) → (K → ℕ) → DeskOf K
+    → DeskState
+state_of told count desk = record {
+  told = told desk.keeper;
+  faults = count desk.keeper;
+  cookies = desk.cookies;
+}
+
+-- What the desk's keeper tells and counts are those after the history, each of whose counts of
+-- faults is one that a keeper of the type can have; and the cookies drawn in it are those from the
+-- first on, in order. None of the cookies left was drawn, or is held in the opening map.
 pub record DeskStandsFor (CanCount : ℕ → Type 0) (first : ℕ) (opening : List ℕ → Option Item)
-    (count : ℕ) (list : List Entry)
-    (told : Option (List ℕ → Option Item)) (now : ℕ) (cookies : Counter) : Type 0 where
-  pub stands : StandsFor opening count list told now
+    (count : ℕ) (list : List Entry) (desk : DeskState) : Type 0 where
+  pub stands : StandsFor opening count list desk.told desk.faults
   pub counts : AllByRecursion (λ e. CanCount e.faults) list
-  pub next : cookies.next ≡ counter_after first cookies.last (draws_in list)
-  pub some : first ≤ cookies.last
-  pub drawn : AllByRecursion (λ e. e.drawn < cookies.next) list
-  pub held : (key : List ℕ) → IsHeldBelow cookies.next (opening key)
+  pub next : desk.cookies.next ≡ counter_after first desk.cookies.last (draws_in list)
+  pub some : first ≤ desk.cookies.last
+  pub drawn : AllByRecursion (λ e. e.drawn < desk.cookies.next) list
+  pub held : (key : List ℕ) → IsHeldBelow desk.cookies.next (opening key)

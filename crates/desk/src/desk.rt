@@ -10,7 +10,7 @@ ghost use Rattle.keeper.specs.Due.{TellsDue};
 ghost use Rattle.shard_core.specs.Standing.{asked_entry};
 ghost use Rattle.shard_core.specs.Sweeping.{swept_entry};
 ghost use Rattle.desk.specs.Draws.{CookiesFit, DrawsNext, draw_of, draws_in};
-ghost use Rattle.desk.specs.Standing.{DeskStandsFor};
+ghost use Rattle.desk.specs.Standing.{DeskStandsFor, state_of};
 
 use asp_messages::{Ask, Reply, Request};
 use cookie_source::PlainCookies;
@@ -89,13 +89,12 @@ impl<K: Keeper> Desk<K> {
         // stands for, and its cookie is the next by counting.
         ensures stands { (first caller : ℕ) (opening : List ℕ → Option Item) (count : ℕ)
             (list : List Entry) → caller < 2 ^ 63
-            → DeskStandsFor K.can_count first opening count list (K.told self.old.keeper)
-            (K.count self.old.keeper) self.old.cookies
+            → DeskStandsFor K.can_count first opening count list
+            (state_of K.told K.count self.old)
             → (result.drawn ≡ draw_of first self.old.cookies.last (draws_in list) request.ask)
             × DeskStandsFor K.can_count first opening count
             (list ++ asked_entry caller t request result.drawn result.reply
-            (K.count self.new.keeper) ∷ [])
-            (K.told self.new.keeper) (K.count self.new.keeper) self.new.cookies }
+            (K.count self.new.keeper) ∷ []) (state_of K.told K.count self.new) }
 
         ensures last { self.new.cookies.last ≡ self.old.cookies.last }
         ensures fault { result.reply ≡ Reply.KeeperFault
@@ -117,11 +116,11 @@ impl<K: Keeper> Desk<K> {
         // stands for.
         ensures stands { (first caller : ℕ) (opening : List ℕ → Option Item) (count : ℕ)
             (list : List Entry) → caller < 2 ^ 63
-            → DeskStandsFor K.can_count first opening count list (K.told self.old.keeper)
-            (K.count self.old.keeper) self.old.cookies
+            → DeskStandsFor K.can_count first opening count list
+            (state_of K.told K.count self.old)
             → DeskStandsFor K.can_count first opening count
             (list ++ swept_entry caller t result (K.count self.new.keeper) ∷ [])
-            (K.told self.new.keeper) (K.count self.new.keeper) self.new.cookies }
+            (state_of K.told K.count self.new) }
 
         ensures nothing { result ≡ Swept.Nothing → TellsDue (K.told self.new.keeper) t Option.None }
         ensures cookies { self.new.cookies ≡ self.old.cookies }

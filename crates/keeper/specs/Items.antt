@@ -25,3 +25,7 @@ TellsSets (Some old) (Some new) key item = Sets old new key item
 abbrev pub IsEmptyTold : Option (List ℕ → Option Item) → Type 0
 IsEmptyTold None = ⊤
 IsEmptyTold (Some items) = (key : List ℕ) → items key ≡ None
+
+-- no keeper of a type that can have these counts ever counts a fault
+abbrev pub NeverCounts : (ℕ → Type 0) → Type 0
+NeverCounts CanCount = (count : ℕ) → CanCount count → count ≡ 0

@@ -14,7 +14,7 @@ use Rattle.session_machine.specs.declared.item.Item.{Item}
 use Rattle.session_machine.specs.declared.item.Hold.{Hold}
 use Rattle.session_machine.specs.Liveness.{seen, is_live}
 use Rattle.session_machine.specs.Machine.{Effect, on_absent, on_free, on_held, on_there, on_seen, effect, Step}
-use Rattle.session_machine.specs.History.{after_reply, after_deed, DeedStands, is_deed_of}
+use Rattle.session_machine.specs.History.{after_reply, after_deed, circumstances_of, DeedStands, is_deed_of}
 use Rattle.lock_laws.specs.InForce.{Grant, granted, grant_under, grant_of, touched_of, touched_by, runs_out, ends, prolongs, is_given_up, is_refused}
 use Rattle.lock_laws.specs.Laws.{named_by, named_in, is_asked, is_change, IsAnsweredUnderLock}
 
@@ -484,7 +484,7 @@ by_reply old e key ask reply h =
     (sym (ap (λ (x : Effect). x.0) h)) (does old e key ask)
 
 asked-does : (old : Option Item) (e : Entry) (key : List ℕ) (ask : Ask) (rose : Bool)
-    (reply : Reply) → Step old e.moment e.drawn ask rose reply
+    (reply : Reply) → Step old ask (circumstances_of rose e) reply
     (after_reply old e.moment e.drawn ask reply)
     → OneEntry old (asked e key ask reply) (after_reply old e.moment e.drawn ask reply)
 asked-does old e key ask rose replies.NoMemory h =

@@ -4,3 +4,4 @@ pub mod LegalLemmas
 pub mod LawLemmas
 pub mod Examples
 pub mod WayLemmas
+pub mod FaultLemmas

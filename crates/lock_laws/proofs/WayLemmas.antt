@@ -11,8 +11,8 @@ use Rattle.session_machine.specs.declared.entry.Deed.TheVariants.{Asked, Expired
 use Rattle.session_machine.specs.declared.item.Item.{Item}
 use Rattle.session_machine.specs.declared.item.Hold.{Hold}
 use Rattle.session_machine.specs.Liveness.{seen, is_live, age}
-use Rattle.session_machine.specs.Machine.{Effect, on_there, on_seen, effect, Step}
-use Rattle.session_machine.specs.History.{IsLegal, item_after, DeedStands}
+use Rattle.session_machine.specs.Machine.{Effect, on_there, on_seen, effect, Circumstances, Step}
+use Rattle.session_machine.specs.History.{IsLegal, item_after, circumstances_of, DeedStands}
 use Rattle.lock_laws.specs.InForce.{Grant, grant_under, grant_of, touched_of, runs_out}
 use Rattle.lock_laws.specs.Laws.{StandsAt, is_asked, is_content_ask, hold_of, IsInForceFor, LockInTheWayIsInForce}
 use Rattle.lock_laws.proofs.LegalLemmas.{rose_at, deed-stands}
@@ -91,17 +91,17 @@ acquire-drew : (old : Option Item) (t drawn cookie seconds : ℕ) (b : Bool)
 acquire-drew old t drawn cookie seconds true is = absurd (cc is)
 acquire-drew old t drawn cookie seconds false is = is
 
-finds-lock : (old : Option Item) (t drawn : ℕ) (ask : Ask) (rose : Bool) (cookie seconds : ℕ)
+finds-lock : (old : Option Item) (ask : Ask) (at : Circumstances) (cookie seconds : ℕ)
     (new : Option Item) → is_content_ask ask ≡ true
-    → Step old t drawn ask rose (replies.Locked cookie seconds) new → FindsLock old t cookie seconds
-finds-lock old t drawn Read rose cookie seconds new asks step =
-    content-seen old t drawn Read cookie seconds asks
-    (reply-of (replies.Locked cookie seconds) new (effect old t drawn Read) step)
-finds-lock old t drawn Acquire rose cookie seconds new asks step =
-    content-seen old t drawn Acquire cookie seconds asks
-    (acquire-drew old t drawn cookie seconds _
-    (reply-of (replies.Locked cookie seconds) new (effect old t drawn Acquire) step))
-finds-lock old t drawn ask rose cookie seconds new asks step = absurd (cc asks)
+    → Step old ask at (replies.Locked cookie seconds) new → FindsLock old at.moment cookie seconds
+finds-lock old Read at cookie seconds new asks step =
+    content-seen old at.moment at.drawn Read cookie seconds asks
+    (reply-of (replies.Locked cookie seconds) new (effect old at.moment at.drawn Read) step)
+finds-lock old Acquire at cookie seconds new asks step =
+    content-seen old at.moment at.drawn Acquire cookie seconds asks
+    (acquire-drew old at.moment at.drawn cookie seconds _
+    (reply-of (replies.Locked cookie seconds) new (effect old at.moment at.drawn Acquire) step))
+finds-lock old ask at cookie seconds new asks step = absurd (cc asks)
 
 asked-finds : (old : Option Item) (rose : Bool) (deed : Deed) (e : Entry) (cookie seconds : ℕ)
     → is_asked is_content_ask deed ≡ true → e.reply ≡ replies.Locked cookie seconds
@@ -112,7 +112,7 @@ asked-finds old rose (Asked request) e cookie seconds asks is step = by_reply e.
         → DeedStands old rose (Asked request) (record e { reply = reply })
         → FindsLock old e.moment cookie seconds
     by_reply reply same stands =
-        finds-lock old e.moment e.drawn request.ask rose cookie seconds _ asks
+        finds-lock old request.ask (circumstances_of rose e) cookie seconds _ asks
         (subst (λ (r : Reply). DeedStands old rose (Asked request) (record e { reply = r }))
         same stands)
 asked-finds old rose (Expired key) e cookie seconds asks is step = absurd (cc asks)
@@ -122,7 +122,8 @@ asked-finds old rose Looked e cookie seconds asks is step = absurd (cc asks)
 found-in_force : (opening : List ℕ → Option Item) (count : ℕ) (list : List Entry) (key : List ℕ)
     (before : List Entry) (e : Entry) (cookie seconds : ℕ) → IsLegal opening count list
     → StandsAt list key before e → FindsLock (item_after opening count before key) e.moment cookie
-    seconds → IsInForceFor opening count key cookie seconds before e.moment
+    seconds → IsInForceFor opening count key (record { cookie = cookie; seconds = seconds }) before
+    e.moment
 found-in_force opening count list key before e cookie seconds legal at found =
     let grant : Grant = record {
       cookie = found.hold.cookie;

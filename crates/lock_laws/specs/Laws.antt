@@ -1,5 +1,6 @@
 -- What locks give, in every legal history.
 use Rattle.std.specs.Prelude.{◌≡◌, ◌≢◌, ℕ, List, [], ◌∷◌, ◌++◌, Option, Some, None, Bool, true, false, IsTrue, ⊤}
+use Rattle.std.specs.List.{AllByRecursion}
 use Rattle.asp_messages.specs.declared.request.Ask.{Ask}
 use Rattle.asp_messages.specs.declared.request.Ask.TheVariants.{Read, Acquire, Release, Write, Remove}
 use Rattle.asp_messages.specs.declared.reply.Reply.{Reply}
@@ -114,17 +115,23 @@ pub record Changes (opening : List ℕ → Option Item) (count : ℕ) (key : Lis
   pub kind : IsTrue (is_asked is_change e.deed)
   pub acts : Acts opening count key before e
 
--- Since the grant, which is the last of until, no entry has acquired a lock or changed the item;
--- nor does the entry e that stands behind, unless it names the cookie of the grant.
-pub record IsAlone (opening : List ℕ → Option Item) (count : ℕ) (key : List ℕ) (grant : Grant)
-    (until since : List Entry) (e : Entry) : Type 0 where
-  pub nobody_acquired : (middle : List Entry) (f : Entry) → StandsAt since key middle f
+-- A grant among entries: those up to it, of which it is the last, and those since.
+pub record GrantAmong : Type 0 where
+  pub grant : Grant
+  pub until : List Entry
+  pub since : List Entry
+
+-- Since the grant no entry has acquired a lock or changed the item; nor does the entry e that
+-- stands behind, unless it names the cookie of the grant.
+pub record IsAlone (opening : List ℕ → Option Item) (count : ℕ) (key : List ℕ) (among : GrantAmong)
+    (e : Entry) : Type 0 where
+  pub nobody_acquired : (middle : List Entry) (f : Entry) → StandsAt among.since key middle f
       → granted f.reply ≡ None
-  pub nobody_changed : (middle : List Entry) (f : Entry) → StandsAt since key middle f
-      → Changes opening count key (until ++ middle) f → ⊥
+  pub nobody_changed : (middle : List Entry) (f : Entry) → StandsAt among.since key middle f
+      → Changes opening count key (among.until ++ middle) f → ⊥
   pub acquires_nothing : granted e.reply ≡ None
-  pub changes_by_cookie : Changes opening count key (until ++ since) e
-      → named_by e.deed ≡ Some grant.cookie
+  pub changes_by_cookie : Changes opening count key (among.until ++ among.since) e
+      → named_by e.deed ≡ Some among.grant.cookie
 
 -- Where a lock is in force nobody else has acquired or changed anything since its grant, and nobody
 -- does.
@@ -134,17 +141,22 @@ NobodyElse opening count list =
     → StandsAt list key before e
     → IsInForce opening count key grant.cookie before e.moment
     → IsGranted opening key grant before until since
-    → IsAlone opening count key grant until since e
+    → IsAlone opening count key (record { grant = grant; until = until; since = since }) e
 
--- The lock of the cookie is in force behind the entries before, and has been held for so many
+-- What a reply tells of a lock that is in the way: its cookie, and how many seconds it was held.
+pub record ToldLock : Type 0 where
+  pub cookie : ℕ
+  pub seconds : ℕ
+
+-- The lock of that cookie is in force behind the entries before, and has been held for that many
 -- seconds at the moment.
 pub record IsInForceFor (opening : List ℕ → Option Item) (count : ℕ) (key : List ℕ)
-    (cookie seconds : ℕ) (before : List Entry) (moment : ℕ) : Type 0 where
-  pub in_force : IsInForce opening count key cookie before moment
+    (told : ToldLock) (before : List Entry) (moment : ℕ) : Type 0 where
+  pub in_force : IsInForce opening count key told.cookie before moment
   pub hold : Hold
   pub held : hold_of (item_after opening count before key) ≡ Some hold
-  pub by_cookie : hold.cookie ≡ cookie
-  pub held_for : age hold moment ≡ seconds
+  pub by_cookie : hold.cookie ≡ told.cookie
+  pub held_for : age hold moment ≡ told.seconds
 
 -- Where an acquire or a read is answered that a lock is in the way, that lock is in force, and as
 -- old as the answer says.
@@ -153,7 +165,8 @@ LockInTheWayIsInForce opening count list =
     (key : List ℕ) (before : List Entry) (e : Entry) (cookie seconds : ℕ)
     → StandsAt list key before e
     → IsTrue (is_asked is_content_ask e.deed) → e.reply ≡ Locked cookie seconds
-    → IsInForceFor opening count key cookie seconds before e.moment
+    → IsInForceFor opening count key (record { cookie = cookie; seconds = seconds }) before
+    e.moment
 
 -- What locks give: all four laws.
 pub record LocksHold (opening : List ℕ → Option Item) (count : ℕ) (list : List Entry) : Type 0 where
@@ -161,3 +174,13 @@ pub record LocksHold (opening : List ℕ → Option Item) (count : ℕ) (list : 
   pub in_force_is_done : InForceIsDone opening count list
   pub no_update_is_lost : NoUpdateIsLost opening count list
   pub nobody_else : NobodyElse opening count list
+
+-- ---- faults of a keeper
+
+-- no entry is answered that the keeper failed
+abbrev pub NeverFaults : List Entry → Type 0
+NeverFaults list = AllByRecursion (λ e. e.reply ≢ KeeperFault) list
+
+-- Where the keeper has counted no fault at any entry, none is answered that it failed.
+abbrev pub FaultsAreCounted : List Entry → Type 0
+FaultsAreCounted list = AllByRecursion (λ e. e.faults ≡ 0) list → NeverFaults list

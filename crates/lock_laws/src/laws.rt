@@ -4,7 +4,7 @@ ghost use Rattle.std.specs.Prelude.{ℕ, List, Option};
 ghost use Rattle.session_machine.specs.declared.entry.Entry.{Entry};
 ghost use Rattle.session_machine.specs.declared.item.Item.{Item};
 ghost use Rattle.session_machine.specs.History.{IsLegal};
-ghost use Rattle.lock_laws.specs.Laws.{ActsOnlyInForce, InForceIsDone, NoUpdateIsLost, NobodyElse, LockInTheWayIsInForce, LocksHold};
+ghost use Rattle.lock_laws.specs.Laws.{ActsOnlyInForce, InForceIsDone, NoUpdateIsLost, NobodyElse, LockInTheWayIsInForce, LocksHold, FaultsAreCounted};
 
 /// A request that names a cookie acts only where that lock is in force: a stale cookie changes
 /// nothing.
@@ -43,4 +43,10 @@ pub fn lock_in_the_way_is_in_force()
 pub fn locks_hold()
     ensures { (opening : List ℕ → Option Item) (count : ℕ) (list : List Entry)
         → IsLegal opening count list → LocksHold opening count list }
+{}
+
+/// A keeper that counts no fault is never answered to have failed.
+pub fn faults_are_counted()
+    ensures { (opening : List ℕ → Option Item) (list : List Entry)
+        → IsLegal opening 0 list → FaultsAreCounted list }
 {}

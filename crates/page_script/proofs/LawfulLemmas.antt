@@ -11,7 +11,7 @@ use Rattle.session_machine.specs.declared.entry.Entry.{Entry}
 use Rattle.session_machine.specs.declared.item.Item.{Item}
 use Rattle.shard_core.specs.Standing.{TellsAfter}
 use Rattle.session_machine.specs.History.{nothing, IsLegal}
-use Rattle.lock_laws.specs.Laws.{IsInForceFor, is_content_ask}
+use Rattle.lock_laws.specs.Laws.{ToldLock, IsInForceFor, is_content_ask}
 use Rattle.lock_laws.proofs.WayLemmas.{lock_in_the_way}
 use Rattle.visit_core.specs.declared.terms.Need.{Need}
 use Rattle.visit_core.specs.declared.terms.Need.TheVariants.{Exclusive, ReadOnly, Off}
@@ -115,8 +115,10 @@ module _ (turns : List Turn) (number : ℕ) (page : Page) (cookie : ℕ)
     same_reply : place.turn.reply ≡ Locked cookie met.age
     same_reply = cc place.answer
 
-    in_force : IsInForceFor nothing 0 page.terms.key cookie met.age (history place.before)
-        place.turn.moment
+    told : ToldLock
+    told = record { cookie = cookie; seconds = met.age }
+
+    in_force : IsInForceFor nothing 0 page.terms.key told (history place.before) place.turn.moment
     in_force =
         lock_in_the_way nothing 0 (history turns) legal page.terms.key (history place.before)
         (entry_of place.turn) cookie met.age
@@ -140,7 +142,7 @@ module _ (turns : List Turn) (number : ℕ) (page : Page) (cookie : ℕ)
       own = place.own;
       last = place.last;
       answer = place.answer;
-      in_force = subst (IsInForceFor nothing 0 page.terms.key cookie met.age (history place.before))
+      in_force = subst (IsInForceFor nothing 0 page.terms.key told (history place.before))
           same_moment in_force;
     }
 

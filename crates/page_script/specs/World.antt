@@ -14,7 +14,7 @@ use Rattle.desk.specs.Draws.{draw_of, draws_in}
 use Rattle.session_machine.specs.declared.entry.Entry.{Entry}
 use Rattle.session_machine.specs.History.{nothing}
 use Rattle.shard_core.specs.Standing.{asked_entry}
-use Rattle.lock_laws.specs.Laws.{IsInForceFor}
+use Rattle.lock_laws.specs.Laws.{ToldLock, IsInForceFor}
 use Rattle.visit_core.specs.declared.act.Ending.{Ending}
 use Rattle.visit_core.specs.declared.act.Heard.TheVariants.{Reply}
 use Rattle.visit_core.specs.declared.terms.Limits.{Limits}
@@ -226,7 +226,8 @@ pub record MetOldLock (turns : List Turn) (number : ℕ) (page : Page) (cookie :
   pub answer : event_of turn ≡ heard met.moment
       (record { key = page.terms.key; ask = ask_for page.terms.need })
       (Reply (Locked cookie met.age))
-  pub in_force : IsInForceFor nothing 0 page.terms.key cookie met.age (history before) met.moment
+  pub in_force : IsInForceFor nothing 0 page.terms.key
+      (record { cookie = cookie; seconds = met.age }) (history before) met.moment
 
 -- a page that releases a lock before its end met that lock, and it was old: a release by force
 abbrev pub ForcesOldLocks : World → Type 0

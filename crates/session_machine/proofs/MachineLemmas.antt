@@ -12,35 +12,34 @@ use Rattle.session_machine.specs.declared.item.Hold.{Hold}
 use Rattle.session_machine.specs.declared.decision.Kind.{Kind}
 use Rattle.session_machine.specs.declared.decision.Kind.TheVariants as kinds
 use Rattle.session_machine.specs.Liveness.{ItemFits, seen, is_live, age}
-use Rattle.session_machine.specs.Machine.{Effect, on_absent, on_free, on_held, on_there, on_seen, effect, Step}
+use Rattle.session_machine.specs.Machine.{Effect, on_absent, on_free, on_held, on_there, on_seen, effect, Circumstances, Step}
 use Rattle.session_machine.specs.Verdicts.{reply_of}
 use Rattle.session_machine.specs.History.{DrawFits, HasPlace, after_reply}
 
 -- a verdict's reply is none that the machine gives besides
-pub verdict_steps : (kind : Kind) (item old new : Option Item) (t drawn : ℕ) (ask : Ask)
-    (rose : Bool)
-    → (reply_of kind item, new) ≡ effect old t drawn ask
-    → Step old t drawn ask rose (reply_of kind item) new
-verdict_steps (kinds.Found cookie first) (Some it) old new t drawn ask rose h = h
-verdict_steps (kinds.Found cookie first) None old new t drawn ask rose h = h
-verdict_steps kinds.Done item old new t drawn ask rose h = h
-verdict_steps (kinds.Locked cookie a) item old new t drawn ask rose h = h
-verdict_steps kinds.Missing item old new t drawn ask rose h = h
-verdict_steps kinds.CookiesOut item old new t drawn ask rose h = h
+pub verdict_steps : (kind : Kind) (item old new : Option Item) (ask : Ask) (at : Circumstances)
+    → (reply_of kind item, new) ≡ effect old at.moment at.drawn ask
+    → Step old ask at (reply_of kind item) new
+verdict_steps (kinds.Found cookie first) (Some it) old new ask at h = h
+verdict_steps (kinds.Found cookie first) None old new ask at h = h
+verdict_steps kinds.Done item old new ask at h = h
+verdict_steps (kinds.Locked cookie a) item old new ask at h = h
+verdict_steps kinds.Missing item old new ask at h = h
+verdict_steps kinds.CookiesOut item old new ask at h = h
 
 -- the state after a step is the one that its reply fixes
-pub Step-fixes : (old new : Option Item) (t drawn : ℕ) (ask : Ask) (rose : Bool) (reply : Reply)
-    → Step old t drawn ask rose reply new → new ≡ after_reply old t drawn ask reply
-Step-fixes old new t drawn ask rose replies.NoMemory h = h
-Step-fixes old new t drawn ask rose replies.KeeperFault h = h.1
-Step-fixes old new t drawn ask rose (replies.Found body minutes cookie first) h =
+pub Step-fixes : (old new : Option Item) (ask : Ask) (at : Circumstances) (reply : Reply)
+    → Step old ask at reply new → new ≡ after_reply old at.moment at.drawn ask reply
+Step-fixes old new ask at replies.NoMemory h = h
+Step-fixes old new ask at replies.KeeperFault h = h.1
+Step-fixes old new ask at (replies.Found body minutes cookie first) h =
     ap (λ (x : Effect). x.1) h
-Step-fixes old new t drawn ask rose replies.Done h = ap (λ (x : Effect). x.1) h
-Step-fixes old new t drawn ask rose (replies.Locked cookie a) h = ap (λ (x : Effect). x.1) h
-Step-fixes old new t drawn ask rose replies.Missing h = ap (λ (x : Effect). x.1) h
-Step-fixes old new t drawn ask rose replies.Bad h = ap (λ (x : Effect). x.1) h
-Step-fixes old new t drawn ask rose replies.CookiesOut h = ap (λ (x : Effect). x.1) h
-Step-fixes old new t drawn ask rose replies.PlacesOut h = ap (λ (x : Effect). x.1) h
+Step-fixes old new ask at replies.Done h = ap (λ (x : Effect). x.1) h
+Step-fixes old new ask at (replies.Locked cookie a) h = ap (λ (x : Effect). x.1) h
+Step-fixes old new ask at replies.Missing h = ap (λ (x : Effect). x.1) h
+Step-fixes old new ask at replies.Bad h = ap (λ (x : Effect). x.1) h
+Step-fixes old new ask at replies.CookiesOut h = ap (λ (x : Effect). x.1) h
+Step-fixes old new ask at replies.PlacesOut h = ap (λ (x : Effect). x.1) h
 
 -- a cookie that was drawn is in range
 pub DrawFits-lt : (ask : Ask) (drawn : ℕ) → DrawFits ask drawn → drawn < 2 ^ 63
@@ -271,24 +270,24 @@ effect-fits old t drawn Reset le small fits asks =
     on_seen-fits (seen old t) t drawn Reset le small (λ e. cc) (seen-fits old t fits) asks
 
 -- so is a step
-pub Step-fits : (old new : Option Item) (t drawn : ℕ) (ask : Ask) (rose : Bool) (reply : Reply)
-    → t ≤ 2 ^ 62 → drawn < 2 ^ 63 → IfSome old ItemFits → AskFits ask
-    → Step old t drawn ask rose reply new → EffectFits (reply, new)
-Step-fits old new t drawn ask rose replies.NoMemory le small fits asks h =
+pub Step-fits : (old new : Option Item) (ask : Ask) (at : Circumstances) (reply : Reply)
+    → at.moment ≤ 2 ^ 62 → at.drawn < 2 ^ 63 → IfSome old ItemFits → AskFits ask
+    → Step old ask at reply new → EffectFits (reply, new)
+Step-fits old new ask at replies.NoMemory le small fits asks h =
     (tt, tt, subst (λ o. IfSome o ItemFits) (sym h) fits)
-Step-fits old new t drawn ask rose replies.KeeperFault le small fits asks h =
+Step-fits old new ask at replies.KeeperFault le small fits asks h =
     (tt, tt, subst (λ o. IfSome o ItemFits) (sym h.1) fits)
-Step-fits old new t drawn ask rose (replies.Found body minutes cookie first) le small fits asks h =
-    subst EffectFits (sym h) (effect-fits old t drawn ask le small fits asks)
-Step-fits old new t drawn ask rose replies.Done le small fits asks h =
-    subst EffectFits (sym h) (effect-fits old t drawn ask le small fits asks)
-Step-fits old new t drawn ask rose (replies.Locked cookie a) le small fits asks h =
-    subst EffectFits (sym h) (effect-fits old t drawn ask le small fits asks)
-Step-fits old new t drawn ask rose replies.Missing le small fits asks h =
-    subst EffectFits (sym h) (effect-fits old t drawn ask le small fits asks)
-Step-fits old new t drawn ask rose replies.Bad le small fits asks h =
-    subst EffectFits (sym h) (effect-fits old t drawn ask le small fits asks)
-Step-fits old new t drawn ask rose replies.CookiesOut le small fits asks h =
-    subst EffectFits (sym h) (effect-fits old t drawn ask le small fits asks)
-Step-fits old new t drawn ask rose replies.PlacesOut le small fits asks h =
-    subst EffectFits (sym h) (effect-fits old t drawn ask le small fits asks)
+Step-fits old new ask at (replies.Found body minutes cookie first) le small fits asks h =
+    subst EffectFits (sym h) (effect-fits old at.moment at.drawn ask le small fits asks)
+Step-fits old new ask at replies.Done le small fits asks h =
+    subst EffectFits (sym h) (effect-fits old at.moment at.drawn ask le small fits asks)
+Step-fits old new ask at (replies.Locked cookie a) le small fits asks h =
+    subst EffectFits (sym h) (effect-fits old at.moment at.drawn ask le small fits asks)
+Step-fits old new ask at replies.Missing le small fits asks h =
+    subst EffectFits (sym h) (effect-fits old at.moment at.drawn ask le small fits asks)
+Step-fits old new ask at replies.Bad le small fits asks h =
+    subst EffectFits (sym h) (effect-fits old at.moment at.drawn ask le small fits asks)
+Step-fits old new ask at replies.CookiesOut le small fits asks h =
+    subst EffectFits (sym h) (effect-fits old at.moment at.drawn ask le small fits asks)
+Step-fits old new ask at replies.PlacesOut le small fits asks h =
+    subst EffectFits (sym h) (effect-fits old at.moment at.drawn ask le small fits asks)

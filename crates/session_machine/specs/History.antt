@@ -13,7 +13,7 @@ use Rattle.session_machine.specs.declared.entry.Deed.{Deed}
 use Rattle.session_machine.specs.declared.entry.Deed.TheVariants.{Asked, Expired, Looked}
 use Rattle.session_machine.specs.declared.item.Item.{Item}
 use Rattle.session_machine.specs.Liveness.{is_live}
-use Rattle.session_machine.specs.Machine.{effect, Step}
+use Rattle.session_machine.specs.Machine.{effect, Circumstances, Step}
 
 -- ---- entries
 
@@ -101,10 +101,14 @@ abbrev pub IsDead : Option Item → ℕ → Type 0
 IsDead None t = ⊥
 IsDead (Some item) t = IsFalse (is_live item t)
 
+-- the circumstances of an entry with which the count of faults rose, or did not
+abbrev pub circumstances_of : Bool → Entry → Circumstances
+circumstances_of rose e = record { moment = e.moment; drawn = e.drawn; rose = rose }
+
 -- the deed may be done where the key has the item old
 abbrev pub DeedStands : Option Item → Bool → Deed → Entry → Type 0
 DeedStands old rose (Asked request) e =
-    Step old e.moment e.drawn request.ask rose e.reply
+    Step old request.ask (circumstances_of rose e) e.reply
     (after_reply old e.moment e.drawn request.ask e.reply)
 DeedStands old rose (Expired key) e = IsDead old e.moment × (e.reply ≡ Done)
 DeedStands old rose Looked e = ⊤

@@ -104,10 +104,16 @@ effect old t drawn Acquire = if drawn == 0 then (CookiesOut, old) else
     on_seen (seen old t) t drawn Acquire
 effect old t drawn ask = on_seen (seen old t) t drawn ask
 
--- From the item old, a request at the moment t that drew the cookie drawn may be answered so and
--- leave new: by the machine's own reply, or by want of memory or a counted fault of the keeper
--- (rose), which change nothing.
-abbrev pub Step : Option Item → ℕ → ℕ → Ask → Bool → Reply → Option Item → Type 0
-Step old t drawn ask rose NoMemory new = new ≡ old
-Step old t drawn ask rose KeeperFault new = IsTrue rose × (new ≡ old)
-Step old t drawn ask rose reply new = (reply, new) ≡ effect old t drawn ask
+-- The circumstances of a request: its moment, the cookie that it drew, and whether the keeper's
+-- count of faults rose with it.
+pub record Circumstances : Type 0 where
+  pub moment : ℕ
+  pub drawn : ℕ
+  pub rose : Bool
+
+-- From the item old, a request may in these circumstances be answered so and leave new: by the
+-- machine's own reply, or by want of memory or a counted fault of the keeper, which change nothing.
+abbrev pub Step : Option Item → Ask → Circumstances → Reply → Option Item → Type 0
+Step old ask at NoMemory new = new ≡ old
+Step old ask at KeeperFault new = IsTrue at.rose × (new ≡ old)
+Step old ask at reply new = (reply, new) ≡ effect old at.moment at.drawn ask

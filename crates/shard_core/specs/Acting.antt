@@ -9,23 +9,22 @@ use Rattle.asp_messages.specs.declared.reply.Reply.TheVariants as replies
 use Rattle.keeper.specs.declared.errors.KeepError.{KeepError}
 use Rattle.keeper.specs.declared.errors.KeepError.TheVariants as errors
 use Rattle.session_machine.specs.declared.item.Item.{Item}
-use Rattle.session_machine.specs.Machine.{Step}
+use Rattle.session_machine.specs.Machine.{Circumstances, Step}
 
--- The session machine takes a step on the request's key, and every other key keeps its item.
-pub record TakesStep (old new : List ℕ → Option Item) (request : Request) (t drawn : ℕ)
-    (rose : Bool)
+-- In these circumstances the session machine takes a step on the request's key, and every other
+-- key keeps its item.
+pub record TakesStep (old new : List ℕ → Option Item) (request : Request) (at : Circumstances)
     (reply : Reply) : Type 0 where
-  pub step : Step (old request.key) t drawn request.ask rose reply (new request.key)
+  pub step : Step (old request.key) request.ask at reply (new request.key)
   pub others : (other : List ℕ) → bytes_eq other request.key ≡ false → new other ≡ old other
 
 -- where a keeper tells, its items take that step
-abbrev pub TellsStep : Option (List ℕ → Option Item) → Option (List ℕ → Option Item) → Request → ℕ
-    → ℕ → Bool → Reply → Type 0
-TellsStep None None request t drawn rose reply = ⊤
-TellsStep None (Some new) request t drawn rose reply = ⊥
-TellsStep (Some old) None request t drawn rose reply = ⊥
-TellsStep (Some old) (Some new) request t drawn rose reply =
-    TakesStep old new request t drawn rose reply
+abbrev pub TellsStep : Option (List ℕ → Option Item) → Option (List ℕ → Option Item) → Request
+    → Circumstances → Reply → Type 0
+TellsStep None None request at reply = ⊤
+TellsStep None (Some new) request at reply = ⊥
+TellsStep (Some old) None request at reply = ⊥
+TellsStep (Some old) (Some new) request at reply = TakesStep old new request at reply
 
 -- the request is an acquire for which no cookie was left
 abbrev pub IsOutOfCookies : Ask → ℕ → Type 0

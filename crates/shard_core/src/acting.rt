@@ -139,8 +139,11 @@ pub fn act_on<K: Keeper>(
     requires moment { t ≤ 2 ^ 62 }
     requires request { RequestFits request }
     requires drawn { DrawFits request.ask drawn }
-    ensures acts { TellsStep (K.told keeper.old) (K.told keeper.new) request t drawn
-        (has_risen (K.count keeper.old) (K.count keeper.new)) result }
+    ensures acts { TellsStep (K.told keeper.old) (K.told keeper.new) request (record {
+      moment = t;
+      drawn = drawn;
+      rose = has_risen (K.count keeper.old) (K.count keeper.new);
+    }) result }
     ensures fits { ReplyFits result }
     ensures place { HasPlace result }
     ensures fault { result ≡ Reply.KeeperFault → Rose (K.count keeper.old) (K.count keeper.new) }

@@ -66,8 +66,11 @@ impl<K: Keeper> Shard<K> {
 
         // The session machine takes one step; the reply is in range and has a place, over every
         // keeper.
-        ensures acts { TellsStep (K.told self.old) (K.told self.new) request t drawn
-            (has_risen (K.count self.old) (K.count self.new)) result }
+        ensures acts { TellsStep (K.told self.old) (K.told self.new) request (record {
+          moment = t;
+          drawn = drawn;
+          rose = has_risen (K.count self.old) (K.count self.new);
+        }) result }
         ensures fits { ReplyFits result }
         ensures place { HasPlace result }
 

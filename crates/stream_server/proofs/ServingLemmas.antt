@@ -4,7 +4,9 @@ use Rattle.std.specs.Prelude.{All}
 use Rattle.std.proofs.lemmas.Bool.{cases_eq, cases_lt}
 use Rattle.std.proofs.lemmas.List.{get_or_default}
 use mathlib.Core.List.{IsPrefix}
+use Rattle.std.specs.List.{AllByRecursion}
 use Rattle.lock_laws.proofs.LawLemmas.{LocksHold-of_legal}
+use Rattle.lock_laws.proofs.FaultLemmas.{faults-counted, no-counts}
 use Rattle.session_machine.specs.declared.entry.Entry.{Entry}
 use Rattle.session_machine.specs.History.{IsLegal, nothing}
 use Rattle.keeper.specs.declared.keeping.Keeper.{Ghosts as KeeperGhosts}
@@ -37,6 +39,8 @@ module _ {K : Type 0} {H : KeeperGhosts K} {G : Ghosts (Desk K) Entry} where
     one = one;
     legal = legal;
     locks = λ tells shard. LocksHold-of_legal nothing 0 (fin.fronts shard) (legal tells shard);
+    no_faults = λ tells never shard. faults-counted nothing (fin.fronts shard) (legal tells shard)
+        (no-counts H.can_count (fin.fronts shard) (counts shard) never);
     callers = λ shard. subst (λ n. All (λ e. e.caller < n) (fin.fronts shard)) is (fin.below shard);
   }
     where
@@ -49,6 +53,12 @@ module _ {K : Type 0} {H : KeeperGhosts K} {G : Ghosts (Desk K) Entry} where
           let inside : 0 < length (p ∷ ps) = omega (arith, some) in
           subst (IsLegal nothing 0) (one shard zero p inside)
           (((fin.each zero p inside).histories shard).legal tells)
+
+      counts : (shard : ℕ) → AllByRecursion (λ e. H.can_count e.faults) (fin.fronts shard)
+      counts shard =
+          let inside : 0 < length (p ∷ ps) = omega (arith, some) in
+          subst (AllByRecursion (λ e. H.can_count e.faults)) (one shard zero p inside)
+          ((fin.each zero p inside).histories shard).counts
 
   module _ {D C : Type 0} where
     served_one : (means : Means D C) (store : Store K Entry H) (j : ℕ)

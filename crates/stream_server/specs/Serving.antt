@@ -3,7 +3,8 @@ use Rattle.std.specs.Prelude.{◌≡◌, ℕ, ◌<◌, List, [], length, slice_i
 use mathlib.Core.List.{IsPrefix}
 use Rattle.session_machine.specs.declared.entry.Entry.{Entry}
 use Rattle.session_machine.specs.History.{IsLegal, nothing}
-use Rattle.lock_laws.specs.Laws.{LocksHold}
+use Rattle.lock_laws.specs.Laws.{LocksHold, NeverFaults}
+use Rattle.keeper.specs.Items.{NeverCounts}
 use Rattle.keeper.specs.declared.keeping.Keeper.{Ghosts as KeeperGhosts}
 use Rattle.turnstile.specs.declared.stands.Stands.{Ghosts}
 use Rattle.state_store.specs.declared.desk.Desk.{Desk}
@@ -23,7 +24,8 @@ IfStored (Some store) P = P store
 
 module _ {K : Type 0} {H : KeeperGhosts K} {G : Ghosts (Desk K) Entry} where
   -- All passes are passes of the store, and have one front in each shard. It is legal where the
-  -- keepers tell, locks hold what they give, and no caller but those of the passes stands in it.
+  -- keepers tell, locks hold what they give, and over keepers that never count a fault none is
+  -- answered; no caller but those of the passes stands in it.
   pub record HaveOneFront (store : Store K Entry H) (passes : List (Pass K Entry G)) : Type 0 where
     pub each : All (IsPassOf store) passes
     pub fronts : ℕ → List Entry
@@ -31,6 +33,8 @@ module _ {K : Type 0} {H : KeeperGhosts K} {G : Ghosts (Desk K) Entry} where
         → (view_in (slice_index_or passes j d) shard).front ≡ fronts shard
     pub legal : AlwaysTells H.told → (shard : ℕ) → IsLegal nothing 0 (fronts shard)
     pub locks : AlwaysTells H.told → (shard : ℕ) → LocksHold nothing 0 (fronts shard)
+    pub no_faults : AlwaysTells H.told → NeverCounts H.can_count → (shard : ℕ)
+        → NeverFaults (fronts shard)
     pub callers : (shard : ℕ) → All (λ e. e.caller < length passes) (fronts shard)
 
   module _ {D C : Type 0} where

@@ -1,6 +1,6 @@
 use Rattle.std.proofs.Common.{◌++◌, ◌∷◌, [], subst}
 use Rattle.shard_core.specs.Sweeping.{swept_entry}
-use Rattle.desk.specs.Standing.{DeskOf, DeskStandsFor}
+use Rattle.desk.specs.Standing.{DeskOf, DeskState, DeskStandsFor, state_of}
 use Rattle.desk.proofs.StandingLemmas.{goes_on-swept}
 use Rattle.desk.proofs.desk.Desk.sweep_one.Goals as goal
 
@@ -8,15 +8,22 @@ pub returns-clause-stands : goal.returns-clause-stands
 returns-clause-stands g c = λ first caller opening count list caller_fits.
     let told = g.K.Keeper.told in
     let faults = g.K.Keeper.count in
+    let old : DeskState = record {
+      told = told c.self.inside.shard;
+      faults = faults c.self.inside.shard;
+      cookies = c.self.inside.cookies;
+    } in
+    let new : DeskState = record {
+      told = told c.sweep_one.new.self;
+      faults = faults c.sweep_one.new.self;
+      cookies = c.self.inside.cookies;
+    } in
     subst (λ (d : DeskOf _). DeskStandsFor g.K.Keeper.can_count first opening count list
-    (told d.keeper) (faults d.keeper) d.cookies
+    (state_of told faults d)
     → DeskStandsFor g.K.Keeper.can_count first opening count
-    (list ++ swept_entry caller c.args.t c.sweep_one.result (faults c.sweep_one.new.self) ∷ [])
-    (told c.sweep_one.new.self) (faults c.sweep_one.new.self) c.self.inside.cookies) c.self.view_is
+    (list ++ swept_entry caller c.args.t c.sweep_one.result new.faults ∷ []) new) c.self.view_is
     (λ stand.
-    goes_on-swept g.K.Keeper.can_count first opening count list (told c.self.inside.shard)
-    (told c.sweep_one.new.self)
-    (faults c.self.inside.shard) (faults c.sweep_one.new.self) c.self.inside.cookies stand
+    goes_on-swept g.K.Keeper.can_count first opening count list old new stand
     (g.K.Keeper.counts c.sweep_one.new.self)
     caller c.args.t c.sweep_one.result c.self.invariant.0
     (c.sweep_one.ensures.history caller opening count list caller_fits stand.stands))
