@@ -1,20 +1,12 @@
 //! The program `asp_state`: the out-of-process session state of ASP.NET.
 #![tactic(auto)]
 
-mod commands;
-mod identifiers;
-mod path;
-mod pipe;
-mod pipe_run;
-mod responder;
 mod storing;
 mod visiting;
-mod words;
 
 use asp_base::{HostSink, HostSource};
-use commands::command;
 use keeper::MapKeeper;
-use path::path_of;
+use pipe_command::{command, path_of};
 use std::process::ExitCode;
 use std::{env, io};
 use storing::run_stored;
