@@ -1,5 +1,1 @@
-pub mod CompleteLemmas
-pub mod EndingLemmas
-pub mod PlainRunLemmas
-pub mod ProgressLemmas
-pub mod ResponderLemmas
+-- No lemmas.

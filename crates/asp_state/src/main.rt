@@ -1,20 +1,15 @@
 //! The program `asp_state`: the out-of-process session state of ASP.NET.
 #![tactic(auto)]
 
-mod commands;
-mod identifiers;
-mod path;
-mod pipe;
-mod pipe_run;
-mod responder;
+mod serving;
 mod storing;
 mod visiting;
-mod words;
 
 use asp_base::{HostSink, HostSource};
-use commands::command;
 use keeper::MapKeeper;
-use path::path_of;
+use pipe_command::{command, path_of};
+use serve_command::serve_words;
+use serving::run_serving;
 use std::process::ExitCode;
 use std::{env, io};
 use storing::run_stored;
@@ -50,6 +45,9 @@ fn main(rt: HostRuntime) -> ExitCode {
         Ok(words) => words,
         Err(status) => return ExitCode::from(status),
     };
+    if let Some(said) = serve_words(&words) {
+        return ExitCode::from(run_serving(&rt, alloc, &words, said));
+    }
     let mut sink = HostSink::new(rt.stdout());
     if let Some(port) = visit_port(&words) {
         return ExitCode::from(run_visiting(&rt, alloc, port, &words, &mut sink));

@@ -1,9 +1,9 @@
 //! A command whose items are in a database file.
 ghost use Rattle.std.specs.Prelude.{◌≡◌, IfOk};
 
-use crate::commands::command;
 use asp_base::{Sink, Source};
 use keeper::KeepError;
+use pipe_command::command;
 use sqlite::{Connection, Error, ErrorCode, File, FileStore};
 use sqlite_keeper::SqliteKeeper;
 

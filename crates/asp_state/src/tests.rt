@@ -1,97 +1,53 @@
-//! Whole runs, from bytes to bytes. Expected replies are in the plain spelling, one a line.
-ghost use Rattle.asp_state.specs.Run.{PipeFits};
-
-mod edges;
-mod endings;
-mod exchanges;
-mod heads;
-mod journals;
-mod loads;
-mod scripts;
-mod stored;
-
-use crate::pipe::Pipe;
-use crate::pipe_run::run_pipe;
+//! Runs over a database, from bytes to bytes.
 use asp_base::{Bytes, MemorySink, MemorySource};
-use asp_messages::spell_reply;
-use keeper::ListKeeper;
-use reply_reader::{ReplyNext, ReplyReader};
+use pipe_command::command;
+use sqlite::{Connection, MemStore};
+use sqlite_keeper::SqliteKeeper;
 use std::alloc::Global;
 use std::test::Fail;
 
-/// The shipped example: a write and a read, 58 bytes.
+/// A write and a read, and the replies to them.
 const WRITE_AND_READ: &[u8] =
     b"PUT /a HTTP/1.1\r\nContent-Length: 1\r\n\r\nxGET /a HTTP/1.1\r\n\r\n";
 
-/// The replies to them, 38 and 52 bytes.
-const DONE: &[u8] = b"HTTP/1.1 200 OK\r\nContent-Length: 0\r\n\r\n";
+const DONE_AND_FOUND: &[u8] = b"HTTP/1.1 200 OK\r\nContent-Length: 0\r\n\r\n\
+    HTTP/1.1 200 OK\r\nTimeout: 20\r\nContent-Length: 1\r\n\r\nx";
+
+/// A read, and the reply to it where the item is there.
+const READ: &[u8] = b"GET /a HTTP/1.1\r\n\r\n";
 
 const FOUND: &[u8] = b"HTTP/1.1 200 OK\r\nTimeout: 20\r\nContent-Length: 1\r\n\r\nx";
 
-const BAD: &[u8] = b"HTTP/1.1 400 Bad Request\r\nContent-Length: 0\r\n\r\n";
-
-/// The settings of `pipe 0 1000 1`.
-const PIPE: Pipe = Pipe {
-    start: 0,
-    step: 1000,
-    first: 1,
-    journal: false,
-    most: 1 << 40,
-};
-
-/// A source of the text, in pieces of at least one byte.
-fn source(alloc: Global, text: &[u8], piece: u64, fails: &[u64]) -> Result<MemorySource, Fail> {
+/// What `pipe 0 1000 1` wrote over the database, and the database after it.
+fn run_over(
+    alloc: Global,
+    database: Connection<MemStore>,
+    text: &[u8],
+) -> Result<(MemorySink, Connection<MemStore>), Fail> {
+    let mut words = Vec::new(alloc);
+    for word in ["pipe", "0", "1000", "1"] {
+        words.push(String::from_str(alloc, word)?)?;
+    }
     let text = Bytes::adopt(Vec::from_slice(alloc, text)?);
-    Ok(MemorySource::new(text, piece.max(1), Vec::from_slice(alloc, fails)?))
-}
-
-fn sink(alloc: Global, fails: &[u64]) -> Result<MemorySink, Fail> {
-    match MemorySink::new(alloc, 16_384, 16_384, Vec::from_slice(alloc, fails)?) {
-        Ok(sink) => Ok(sink),
-        Err(_) => Err("no memory".into()),
-    }
-}
-
-/// The status of a run over the text in pieces, and the bytes that it wrote.
-fn run_text(alloc: Global, pipe: Pipe, text: &[u8], piece: u64) -> Result<(u8, MemorySink), Fail>
-    requires { PipeFits pipe }
-{
-    let mut input = source(alloc, text, piece, &[])?;
-    let mut output = sink(alloc, &[])?;
-    let ran = run_pipe(alloc, pipe, &mut input, &mut output, ListKeeper::new(alloc));
-    Ok((ran.status, output))
-}
-
-/// The replies that the bytes spell, in the plain spelling, one a line.
-fn spelled(alloc: Global, output: &[u8]) -> Result<Vec<u8>, Fail> {
-    let mut lines = Vec::new(alloc);
-    if output.len() > 16_384 {
-        return Err("too much was written".into());
-    }
-    let mut reader = ReplyReader::new(alloc);
-    if reader.feed(output).is_err() {
+    let mut source = MemorySource::new(text, 16, Vec::new(alloc));
+    let Ok(mut sink) = MemorySink::new(alloc, 16_384, 16_384, Vec::new(alloc)) else {
         return Err("no memory".into());
+    };
+    let keeper = SqliteKeeper::over(alloc, database)?;
+    let ran = command(alloc, &words, &mut source, &mut sink, keeper);
+    if ran.status != 0 {
+        return Err("the run has another status".into());
     }
-    for _ in 0..1000 {
-        match reader.next() {
-            ReplyNext::Reply(reply) => {
-                if spell_reply(&mut lines, &reply).is_err() {
-                    return Err("no memory".into());
-                }
-                lines.push(b'\n')?;
-            }
-            _ => break,
-        }
-    }
-    if !reader.end() {
-        return Err("what was written is no whole replies".into());
-    }
-    Ok(lines)
+    Ok((sink, ran.keeper.into_connection()))
 }
 
-/// These texts in one.
-fn joined(alloc: Global, first: &[u8], second: &[u8]) -> Result<Vec<u8>, Fail> {
-    let mut text = Vec::from_slice(alloc, first)?;
-    text.extend_from_slice(second)?;
-    Ok(text)
+#[test]
+fn items_are_kept_from_run_to_run(rt: HostRuntime) -> Result<(), Fail> {
+    let alloc = rt.alloc();
+    let database = Connection::open_in_memory(alloc)?;
+    let (sink, database) = run_over(alloc, database, WRITE_AND_READ)?;
+    assert_eq!(rt; sink.taken(), DONE_AND_FOUND);
+    let (sink, _) = run_over(alloc, database, READ)?;
+    assert_eq!(rt; sink.taken(), FOUND);
+    Ok(())
 }

@@ -57,8 +57,7 @@ fn write_outcome<T: Sink>(sink: &mut T, outcome: &Outcome) -> u8
 /// feed. It answers the exit status: 0 where the page was done, 2 exactly where the words are none
 /// of `visit`, 5 where the sink failed, 6 where there was no memory, 11 where the page lost its
 /// lock, 12 where it gave up, 13 where the link failed, 14 where a request was refused, and 15
-/// where
-/// what came is no reply. On 2 nothing is sent, received or written, on 6 and 15 nothing is
+/// where what came is no reply. On 2 nothing is sent, received or written, on 6 and 15 nothing is
 /// written.
 pub fn visit<R: Wait + HostTime, L: Link, T: Sink, C: Clock>(
     rt: &R,

@@ -1,0 +1,175 @@
+-- A run goes on by one message.
+use Rattle.std.proofs.Common.{◌≡◌, ℕ, ◌+◌, List, [], ◌∷◌, ◌++◌, length, map, refl, sym, ap, ◌∙◌, arith, append_assoc, append-nil, length-append}
+use Rattle.std.proofs.lemmas.List.{map-append}
+use Rattle.asp_base.specs.Moments.{step_moment}
+use Rattle.asp_messages.specs.declared.request.Message.{Message}
+use Rattle.asp_messages.specs.declared.request.Message.TheVariants.{Fit, Unfit}
+use Rattle.asp_messages.specs.declared.request.Request.{Request}
+use Rattle.asp_messages.specs.declared.reply.Reply.TheVariants as replies
+use Rattle.asp_messages.specs.Fields.{most_cookie}
+use Rattle.asp_messages.specs.ReplyText.{reply_text}
+use Rattle.asp_messages.specs.Ranges.{RequestFits}
+use Rattle.asp_messages.specs.RequestSpelling.{SpellsRequest}
+use Rattle.asp_messages.proofs.StreamLemmas.{Spelled-push, Spelled-append}
+use Rattle.asp_messages.proofs.RequestLemmas.{spelled_fits}
+use Rattle.desk.specs.Draws.{draw_of, draws_in}
+use Rattle.desk.specs.Standing.{DeskStandsFor}
+use Rattle.session_machine.specs.declared.entry.Entry.{Entry}
+use Rattle.session_machine.specs.declared.entry.Deed.TheVariants.{Asked}
+use Rattle.session_machine.specs.History.{nothing}
+use Rattle.pipe_command.specs.declared.pipe.Output.{Output}
+use Rattle.pipe_command.specs.declared.pipe.Output.TheVariants as outputs
+use Rattle.pipe_command.specs.declared.pipe.Pipe.{Pipe}
+use Rattle.pipe_command.specs.declared.responder.Answer.{Answer}
+use Rattle.pipe_command.specs.Answering.{Answers, AnswersMessage, IfFit, IsAnswered, ServerState, due_for, entry_of}
+use Rattle.pipe_command.specs.PlainRun.{Asking, asking_of, askings, output_of, written_as}
+use Rattle.pipe_command.specs.Progress.{Progress, total_draws}
+use Rattle.pipe_command.proofs.PlainRunLemmas.{askings-push, draws_in-plain, written-unfit, written-fit, journal_text-push}
+
+pub fit_of_spelling : (front : List ℕ) (m : Message) → SpellsRequest front m → IfFit m RequestFits
+fit_of_spelling front (Fit r) spells = spelled_fits front r spells
+fit_of_spelling front Unfit spells = tt
+
+-- a piece more
+pub Progress-fed : (CanCount : ℕ
+    → Type 0) (pipe : Pipe) (bytes due piece : List ℕ) (s : ServerState)
+    → Progress CanCount pipe bytes due s
+    → Progress CanCount pipe (bytes ++ piece) due (record s { held = s.held ++ piece })
+Progress-fed CanCount pipe bytes due piece s run = record {
+  messages = run.messages;
+  list = run.list;
+  spelled = Spelled-append SpellsRequest bytes run.messages s.held piece run.spelled;
+  plain = run.plain;
+  due_is = run.due_is;
+  desk = run.desk;
+  last_cookie = run.last_cookie;
+  moment = run.moment;
+  step = run.step;
+}
+
+-- what is due with one message more
+due-unfit : (output : Output) (start step first faults : ℕ) (answer : Answer) (ms : List Message)
+    (list : List Entry) → answer.reply ≡ replies.Bad
+    → map asking_of list ≡ askings start step first 0 0 ms
+    → written_as output (ms ++ Unfit ∷ []) list ≡ written_as output ms list ++ due_for output Unfit
+    answer faults
+due-unfit outputs.Replies start step first faults answer ms list bad plain =
+    written-unfit start step first 0 0 ms list plain
+    ∙ ap (λ r. written_as outputs.Replies ms list ++ reply_text r) (sym bad)
+due-unfit outputs.Journal start step first faults answer ms list bad plain =
+    sym (append-nil (written_as outputs.Journal ms list))
+
+due-fit : (output : Output) (start step first faults : ℕ) (answer : Answer) (ms : List Message)
+    (list : List Entry) (r : Request) → map asking_of list ≡ askings start step first 0 0 ms
+    → written_as output (ms ++ Fit r ∷ []) (list ++ entry_of r answer faults ∷ [])
+    ≡ written_as output ms list ++ due_for output (Fit r) answer faults
+due-fit outputs.Replies start step first faults answer ms list r plain =
+    written-fit start step first 0 0 ms list r (entry_of r answer faults) plain
+due-fit outputs.Journal start step first faults answer ms list r plain =
+    journal_text-push 0 list (entry_of r answer faults)
+
+module _ (CanCount : ℕ → Type 0) (pipe : Pipe) (bytes due front : List ℕ) (s s' : ServerState)
+    (answer : Answer) (run : Progress CanCount pipe bytes due (record s {
+      held =
+          front ++ s'.held;
+    }))
+  where
+    clock-next : (m : Message) → Answers CanCount m s s' answer
+        → s'.clock.next ≡ step_moment pipe.start pipe.step (length (run.messages ++ m ∷ []))
+    clock-next m one =
+        let now =
+        run.moment ∙ ap (λ k. step_moment pipe.start k (length run.messages)) (sym run.step) in
+        let more : length run.messages + 1 ≡ length (run.messages ++ m ∷ []) =
+        omega (arith, length-append run.messages (m ∷ [])) in
+        one.ticks.in_order pipe.start (length run.messages) now
+        ∙ ap (λ k. step_moment pipe.start k (length run.messages + 1)) run.step
+        ∙ ap (step_moment pipe.start pipe.step) more
+
+    goes_on-unfit : SpellsRequest front Unfit → Answers CanCount Unfit s s' answer
+        → Progress CanCount pipe bytes
+        (due ++ due_for (output_of pipe.journal) Unfit answer s'.faults) s'
+    goes_on-unfit spells one =
+        let replied : AnswersMessage CanCount Unfit s s' answer = one.replies in
+        let desk = rw (← replied.1, ← replied.2, ← replied.3) at run.desk in
+        record {
+          messages = run.messages ++ Unfit ∷ [];
+          list = run.list;
+          spelled =
+              Spelled-push SpellsRequest bytes run.messages front s'.held Unfit run.spelled spells;
+          plain = run.plain
+              ∙ sym (askings-push pipe.start pipe.step pipe.first 0 0 run.messages Unfit
+              ∙ append-nil _);
+          due_is =
+              ap (λ t. t ++ due_for (output_of pipe.journal) Unfit answer s'.faults) run.due_is
+              ∙ sym (due-unfit (output_of pipe.journal) pipe.start pipe.step pipe.first s'.faults
+              answer
+              run.messages run.list replied.0 run.plain);
+          desk = desk;
+          last_cookie = ap (λ k. k.last) replied.3 ∙ run.last_cookie;
+          moment = clock-next Unfit one;
+          step = one.ticks.step ∙ run.step;
+        }
+
+    goes_on-fit : (r : Request) → SpellsRequest front (Fit r) → Answers CanCount (Fit r) s s' answer
+        → Progress CanCount pipe bytes
+        (due ++ due_for (output_of pipe.journal) (Fit r) answer s'.faults) s'
+    goes_on-fit r spells one =
+        record {
+          messages = run.messages ++ Fit r ∷ [];
+          list = run.list ++ entry_of r answer s'.faults ∷ [];
+          spelled =
+              Spelled-push SpellsRequest bytes run.messages front s'.held
+              (Fit r) run.spelled spells;
+          plain =
+              map-append asking_of run.list (entry_of r answer s'.faults ∷ [])
+              ∙ ap (λ t. t ++ (0, answer.moment, Asked r, answer.drawn) ∷ []) run.plain
+              ∙ ap (λ t. asking t answer.drawn) moment
+              ∙ ap (asking (step_moment pipe.start pipe.step (0 + length run.messages))) drawn_is
+              ∙ sym (askings-push pipe.start pipe.step pipe.first 0 0 run.messages (Fit r));
+          due_is =
+              ap (λ t. t ++ due_for (output_of pipe.journal) (Fit r) answer s'.faults) run.due_is
+              ∙ sym (due-fit (output_of pipe.journal) pipe.start pipe.step pipe.first s'.faults
+              answer
+              run.messages run.list r run.plain);
+          desk = stands.1;
+          last_cookie = one.replies.last ∙ run.last_cookie;
+          moment = clock-next (Fit r) one;
+          step = one.ticks.step ∙ run.step;
+        }
+      where
+        stands : (answer.drawn ≡ draw_of pipe.first s.cookies.last (draws_in run.list) r.ask)
+            × DeskStandsFor CanCount pipe.first nothing 0
+            (run.list ++ entry_of r answer s'.faults ∷ [])
+            s'.told s'.faults s'.cookies
+        stands = one.replies.history pipe.first run.list run.desk
+
+        drawn_is : answer.drawn ≡ draw_of pipe.first most_cookie (0 + total_draws run.messages)
+            r.ask
+        drawn_is =
+            let all =
+            draws_in-plain pipe.start pipe.step pipe.first 0 0 run.messages run.list run.plain in
+            let at : draws_in run.list ≡ 0 + total_draws run.messages = omega (arith, all) in
+            stands.0 ∙ ap (λ l. draw_of pipe.first l (draws_in run.list) r.ask) run.last_cookie
+            ∙ ap (λ n. draw_of pipe.first most_cookie n r.ask) at
+
+        moment : answer.moment ≡ step_moment pipe.start pipe.step (0 + length run.messages)
+        moment =
+            let at : length run.messages ≡ 0 + length run.messages = omega arith in
+            one.moment ∙ run.moment ∙ ap (step_moment pipe.start pipe.step) at
+
+        asking : (t d : ℕ) → List Asking
+        asking t d =
+            askings pipe.start pipe.step pipe.first 0 0 run.messages ++ (0, t, Asked r, d) ∷ []
+
+-- the line or the reply that stands for a message
+pub goes_on : (CanCount : ℕ → Type 0) (pipe : Pipe) (bytes due front : List ℕ) (Gives : List ℕ
+    → Type 0)
+    (s s' : ServerState) (m : Message)
+    (one : IsAnswered CanCount (output_of pipe.journal) Gives m s s') → SpellsRequest front m
+    → Progress CanCount pipe bytes due (record s { held = front ++ s'.held })
+    → Progress CanCount pipe bytes
+    (due ++ due_for (output_of pipe.journal) m one.answer s'.faults) s'
+goes_on CanCount pipe bytes due front Gives s s' (Fit r) one spells run =
+    goes_on-fit CanCount pipe bytes due front s s' one.answer run r spells one.answers
+goes_on CanCount pipe bytes due front Gives s s' Unfit one spells run =
+    goes_on-unfit CanCount pipe bytes due front s s' one.answer run spells one.answers

@@ -1,0 +1,83 @@
+-- What one message does to a server: to its items, to the cookies that are left, and to its clock.
+use Rattle.std.specs.Prelude.{◌≡◌, ℕ, ◌+◌, ◌≤◌, ◌^◌, List, [], ◌∷◌, ◌++◌, Option, ⊤}
+use Rattle.asp_base.specs.Moments.{Ticking, step_moment}
+use Rattle.asp_messages.specs.declared.request.Request.{Request}
+use Rattle.asp_messages.specs.declared.request.Message.{Message}
+use Rattle.asp_messages.specs.declared.request.Message.TheVariants.{Fit, Unfit}
+use Rattle.asp_messages.specs.declared.reply.Reply.TheVariants.{Bad}
+use Rattle.asp_messages.specs.ReplyText.{reply_text}
+use Rattle.cookie_source.specs.Counting.{Counter}
+use Rattle.desk.specs.Draws.{draw_of, draws_in}
+use Rattle.desk.specs.Standing.{DeskStandsFor}
+use Rattle.journal_text.specs.JournalText.{entry_line}
+use Rattle.session_machine.specs.declared.entry.Entry.{Entry}
+use Rattle.session_machine.specs.declared.item.Item.{Item}
+use Rattle.session_machine.specs.History.{nothing}
+use Rattle.shard_core.specs.Standing.{asked_entry}
+use Rattle.pipe_command.specs.declared.pipe.Output.{Output}
+use Rattle.pipe_command.specs.declared.pipe.Output.TheVariants.{Replies, Journal}
+use Rattle.pipe_command.specs.declared.responder.Answer.{Answer}
+
+-- A server: the bytes held, what its keeper tells and counts, the cookies that are left, the clock.
+pub record ServerState : Type 0 where
+  pub held : List ℕ
+  pub told : Option (List ℕ → Option Item)
+  pub faults : ℕ
+  pub cookies : Counter
+  pub clock : Ticking
+
+-- a fact of the request of a message that is one
+abbrev pub IfFit : Message → (Request → Type 0) → Type 0
+IfFit (Fit r) P = P r
+IfFit Unfit P = ⊤
+
+-- the entry of a request that was answered so, behind which the keeper counts so many faults
+abbrev pub entry_of : Request → Answer → ℕ → Entry
+entry_of r answer faults = asked_entry 0 answer.moment r answer.drawn answer.reply faults
+
+-- A request was answered: behind each history that the desk stands for, its entry makes a history
+-- that it stands for, and its cookie is the next by counting.
+pub record AnswersRequest (CanCount : ℕ → Type 0) (r : Request) (old new : ServerState)
+    (answer : Answer) : Type 0 where
+  pub history : (first : ℕ) (list : List Entry)
+      → DeskStandsFor CanCount first nothing 0 list old.told old.faults old.cookies
+      → (answer.drawn ≡ draw_of first old.cookies.last (draws_in list) r.ask)
+      × DeskStandsFor CanCount first nothing 0 (list ++ entry_of r answer new.faults ∷ [])
+      new.told new.faults new.cookies
+  pub last : new.cookies.last ≡ old.cookies.last
+
+-- a message was answered; one that is no request changes nothing
+abbrev pub AnswersMessage : (ℕ → Type 0) → Message → ServerState → ServerState → Answer → Type 0
+AnswersMessage CanCount (Fit r) old new answer = AnswersRequest CanCount r old new answer
+AnswersMessage CanCount Unfit old new answer =
+    (answer.reply ≡ Bad) × (new.told ≡ old.told) × (new.faults ≡ old.faults)
+    × (new.cookies ≡ old.cookies)
+
+-- The clock went on by one moment.
+pub record Ticks (old new : Ticking) : Type 0 where
+  pub in_range : old.next ≤ 2 ^ 62
+  pub in_order : (start k : ℕ) → old.next ≡ step_moment start old.step k
+      → new.next ≡ step_moment start old.step (k + 1)
+  pub step : new.step ≡ old.step
+
+-- A message was answered at the clock's next moment.
+pub record Answers (CanCount : ℕ → Type 0) (m : Message) (old new : ServerState) (answer : Answer)
+    : Type 0 where
+  pub moment : answer.moment ≡ old.clock.next
+  pub ticks : Ticks old.clock new.clock
+  pub held : new.held ≡ old.held
+  pub replies : AnswersMessage CanCount m old new answer
+
+-- what is due for a message that was answered: its reply, or its entry's line, where it has an
+-- entry
+abbrev pub due_for : Output → Message → Answer → ℕ → List ℕ
+due_for Replies m answer faults = reply_text answer.reply
+due_for Journal (Fit r) answer faults = entry_line (entry_of r answer faults)
+due_for Journal Unfit answer faults = []
+
+-- A message was answered, and what is due for it was given so.
+pub record IsAnswered (CanCount : ℕ → Type 0) (output : Output) (Gives : List ℕ → Type 0)
+    (m : Message) (old new : ServerState) : Type 0 where
+  pub answer : Answer
+  pub answers : Answers CanCount m old new answer
+  pub gives : Gives (due_for output m answer new.faults)

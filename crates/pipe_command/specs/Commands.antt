@@ -1,0 +1,76 @@
+-- What each command does.
+use Rattle.std.specs.Prelude.{◌≡◌, ◌⊎◌, ◌++◌, ◌∷◌, [], ◌^◌, ℕ, List, Option, ⊤}
+use Rattle.asp_base.specs.Outside.{Takes, TakesFront}
+use Rattle.journal_replay.specs.Replay as replay
+use Rattle.keeper.specs.declared.keeping.Keeper.{Ghosts}
+use Rattle.keeper.specs.declared.ran.Ran.{Ran}
+use Rattle.load_generator.specs.declared.load.Load.{Load}
+use Rattle.load_generator.specs.Run.{IsLoad}
+use Rattle.script_runner.specs.Drive as drive
+use Rattle.session_id.specs.Identifiers.{text_of}
+use Rattle.session_machine.specs.declared.entry.Entry.{Entry}
+use Rattle.stream_run.specs.Flow.{Flow}
+use Rattle.pipe_command.specs.declared.pipe.Pipe.{Pipe}
+use Rattle.pipe_command.specs.declared.words.Command.{Command}
+use Rattle.pipe_command.specs.declared.words.Command.TheVariants as commands
+use Rattle.pipe_command.specs.Run as pipe
+
+-- a fact of a run of `pipe` or `trace`
+abbrev pub IfPipe : Command → (Pipe → Type 0) → Type 0
+IfPipe (commands.Pipe pipe) P = P pipe
+IfPipe command P = ⊤
+
+-- a fact of a load
+abbrev pub IfLoad : Command → (Load → Type 0) → Type 0
+IfLoad (commands.Load load) P = P load
+IfLoad command P = ⊤
+
+-- the line was written on status 0, and a front of it on status 5; there is no other
+abbrev pub WritesLine : ℕ → Option (List ℕ) → Option (List ℕ) → List ℕ → Type 0
+WritesLine status sink sink' line =
+    ((status ≡ 0) × Takes sink sink' line) ⊎ ((status ≡ 5) × TakesFront sink sink' line)
+
+-- What is seen of a call: the source before and after it, what source and sink tell, the keeper
+-- that it was given, and its result.
+pub record Seen (S K : Type 0) : Type 0 where
+  pub source : S
+  pub source' : S
+  pub flow : Flow
+  pub keeper : K
+  pub result : Ran K
+
+module _ {S K : Type 0} (G : Ghosts K) (seen : Seen S K) where
+  -- What each command does. `pipe` and `trace` are one run; `load` is one load, and reads nothing;
+  -- `replay` is one replay; `drive` is one run of a page script, and has status 3 on no script;
+  -- `id` reads nothing, and writes the identifier and a line feed.
+  abbrev pub Does : Command → Type 0
+  Does (commands.Pipe run) = (end : pipe.End) × (seen.result.status ≡ pipe.status_number end)
+      × pipe.IsRun G.can_count run seen.flow
+      (G.told seen.result.keeper) (G.count seen.result.keeper) end
+  Does (commands.Load load) = (seen.source' ≡ seen.source)
+      × IsLoad G.can_count load.requests load.seed seen.flow.sink seen.flow.sink'
+      (G.told seen.result.keeper) (G.count seen.result.keeper) seen.result.status
+  Does commands.Replay = (seen.result.keeper ≡ seen.keeper)
+      × ((end : replay.End) × (seen.result.status ≡ replay.status_number end)
+      × replay.IsReplay (2 ^ 40) seen.flow.source seen.flow.source' seen.flow.sink
+      seen.flow.sink' end)
+  Does commands.Drive = (seen.result.status ≡ 3 → drive.TellsScript seen.flow.source → ⊥)
+      × ((end : drive.End) × (seen.result.status ≡ drive.status_number end)
+      × drive.IsDrive G.can_count (2 ^ 40) seen.flow
+      (G.told seen.result.keeper) (G.count seen.result.keeper) end)
+  Does (commands.Id bytes) = (seen.source' ≡ seen.source) × (seen.result.keeper ≡ seen.keeper)
+      × WritesLine seen.result.status seen.flow.sink seen.flow.sink' (text_of bytes ++ 10 ∷ [])
+
+-- What each command does where neither source nor sink fails, if memory is there: whole messages
+-- are answered, a journal is judged, a text that is none is told, a script is run whole.
+abbrev pub Completes : Option (List ℕ × List ℕ) → ℕ → Command → Type 0
+Completes told status (commands.Pipe run) =
+    pipe.IsWholeInput told run.most → (status ≡ 0) ⊎ (status ≡ 6)
+Completes told status commands.Replay =
+    ((place : ℕ) (list : List Entry) → replay.TellsJournal told (2 ^ 40) place list
+    → replay.IsStatusOf status place list)
+    × (replay.TellsNoJournal told (2 ^ 40) → (status ≡ 3) ⊎ (status ≡ 6))
+Completes told status commands.Drive =
+    drive.TellsScript told → drive.TellsFewer told (2 ^ 40) → (status ≡ 0) ⊎ (status ≡ 6)
+Completes told status (commands.Load load) = ⊤
+Completes told status (commands.Id bytes) = ⊤

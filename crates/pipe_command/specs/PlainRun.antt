@@ -1,0 +1,66 @@
+-- A plain run: what the messages of a stream ask of the session machine, and what is written for
+-- them. Nothing here depends on how the bytes were cut.
+use Rattle.std.specs.Prelude.{◌≡◌, ◌⊎◌, ℕ, ◌+◌, List, [], ◌∷◌, ◌++◌, map, Bool, true, false}
+use Rattle.asp_base.specs.Moments.{step_moment}
+use Rattle.asp_messages.specs.declared.request.Message.{Message}
+use Rattle.asp_messages.specs.declared.request.Message.TheVariants.{Fit, Unfit}
+use Rattle.asp_messages.specs.declared.reply.Reply.TheVariants.{Bad}
+use Rattle.asp_messages.specs.Fields.{most_cookie}
+use Rattle.asp_messages.specs.ReplyText.{reply_text}
+use Rattle.desk.specs.Draws.{draws, draw_of}
+use Rattle.journal_text.specs.JournalText.{entry_line, journal_text}
+use Rattle.session_machine.specs.declared.entry.Entry.{Entry}
+use Rattle.session_machine.specs.declared.entry.Deed.{Deed}
+use Rattle.session_machine.specs.declared.entry.Deed.TheVariants.{Asked}
+use Rattle.pipe_command.specs.declared.pipe.Output.{Output}
+use Rattle.pipe_command.specs.declared.pipe.Output.TheVariants.{Replies, Journal}
+
+-- what is asked of the machine: the caller, the moment, the deed and the drawn cookie
+abbrev pub Asking : Type 0
+Asking = ℕ × ℕ × Deed × ℕ
+
+-- what an entry says was asked
+abbrev pub asking_of : Entry → Asking
+asking_of e = (e.caller, e.moment, e.deed, e.drawn)
+
+-- What the messages ask from the k-th moment and the j-th cookie on. Each message has a moment, and
+-- each acquire draws a cookie.
+abbrev pub askings : ℕ → ℕ → ℕ → ℕ → ℕ → List Message → List Asking
+askings start step first k j [] = []
+askings start step first k j (Unfit ∷ ms) = askings start step first (k + 1) j ms
+askings start step first k j (Fit r ∷ ms) =
+    (0, step_moment start step k, Asked r, draw_of first most_cookie j r.ask)
+    ∷ askings start step first (k + 1) (j + draws r.ask) ms
+
+-- the entries are what the messages ask, in order
+abbrev pub IsPlainRun : ℕ → ℕ → ℕ → List Message → List Entry → Type 0
+IsPlainRun start step first ms list = map asking_of list ≡ askings start step first 0 0 ms
+
+-- the canonical text of each message's reply, in order; a message that is no request is answered
+-- `Bad`
+abbrev pub written : List Message → List Entry → List ℕ
+written [] list = []
+written (Unfit ∷ ms) list = reply_text Bad ++ written ms list
+written (Fit r ∷ ms) [] = []
+written (Fit r ∷ ms) (e ∷ es) = reply_text e.reply ++ written ms es
+
+-- what a run is to write
+abbrev pub output_of : Bool → Output
+output_of false = Replies
+output_of true = Journal
+
+-- what a run writes: the replies, or the journal of its entries
+abbrev pub written_as : Output → List Message → List Entry → List ℕ
+written_as Replies ms list = written ms list
+written_as Journal ms list = journal_text 0 list
+
+-- what is written behind that for bytes that are no whole messages: one more `Bad`, and nothing
+-- into a journal
+abbrev pub closing : Output → List ℕ
+closing Replies = reply_text Bad
+closing Journal = []
+
+-- what a run may leave out for want of memory: the last line of a journal
+abbrev pub MayLack : Output → List ℕ → Type 0
+MayLack Replies line = line ≡ []
+MayLack Journal line = (line ≡ []) ⊎ ((e : Entry) × (line ≡ entry_line e))

@@ -1,0 +1,98 @@
+-- A responder as a consumer of the loop.
+use Rattle.std.specs.Prelude.{◌≡◌, ◌≢◌, ◌⊎◌, ℕ, Bool, true, false, List, [], ◌++◌, IsTrue, IsFalse}
+use Rattle.asp_messages.specs.RequestSpelling.{SpellsRequest}
+use Rattle.asp_messages.specs.Stream.{HasNoMessage, IsHopeless}
+use Rattle.journal_text.specs.JournalText.{journal_text}
+use Rattle.keeper.specs.declared.keeping.Keeper.{Ghosts}
+use Rattle.message_framing.specs.Held.{Held}
+use Rattle.pipe_command.specs.declared.pipe.Verdict.{Verdict}
+use Rattle.pipe_command.specs.declared.pipe.Verdict.TheVariants.{Whole, Broken}
+use Rattle.pipe_command.specs.declared.responder.Responder.{Responder}
+use Rattle.pipe_command.specs.Answering.{ServerState}
+use Rattle.pipe_command.specs.Giving.{given_body, given_head}
+use Rattle.pipe_command.specs.PlainRun.{MayLack, closing, output_of}
+use Rattle.pipe_command.specs.Progress.{Progress}
+
+-- what was given last
+abbrev pub given : {K : Type 0} → Responder K → List ℕ
+given now = given_head now.given now.line.items ++ given_body now.given
+
+-- the bytes behind the messages that were taken: those that are held, or, where the stream is
+-- broken, some that can become no message
+abbrev pub IsRest : Held → List ℕ → Type 0
+IsRest reader rest = (IsFalse reader.is_broken × (rest ≡ reader.held))
+    ⊎ (IsTrue reader.is_broken × IsHopeless SpellsRequest rest)
+
+-- what is due with the first line of a journal, where that was not given yet
+abbrev pub owing : Bool → List ℕ → List ℕ
+owing true due = due
+owing false due = due ++ journal_text 0 []
+
+-- one thing to do, where the first line of a journal was not given yet
+abbrev pub unbegun : Bool → ℕ
+unbegun true = 0
+unbegun false = 1
+
+-- all that can be done with the bytes held was done: no message is whole; if more bytes could
+-- follow, they may be fed
+pub record Waits {K : Type 0} (more : Bool) (now : Responder K) : Type 0 where
+  pub is_begun : IsTrue now.is_begun
+  pub may_feed : IsTrue now.stream.reader.may_feed
+  pub none : IsFalse now.stream.reader.is_broken → HasNoMessage SpellsRequest now.stream.reader.held
+  pub whole : IsTrue more → IsFalse now.stream.reader.is_broken
+
+module _ {K : Type 0} (G : Ghosts K) where
+  -- the server's state
+  abbrev pub state_of : Responder K → ServerState
+  state_of now = record {
+    held = now.stream.reader.held;
+    told = G.told now.desk.keeper;
+    faults = G.count now.desk.keeper;
+    cookies = now.desk.cookies;
+    clock = now.clock;
+  }
+
+  -- What answering leaves as it was.
+  pub record Keeps (old new : Responder K) : Type 0 where
+    pub pipe : new.pipe ≡ old.pipe
+    pub is_begun : new.is_begun ≡ old.is_begun
+    pub reader : new.stream.reader ≡ old.stream.reader
+    pub floor : G.floor new.desk.keeper ≡ G.floor old.desk.keeper
+
+  -- The bytes are messages that were answered and a rest, and the bytes that are due are what a run
+  -- of the messages writes.
+  pub record HasAnswered (first now : Responder K) (bytes rest due : List ℕ) : Type 0 where
+    pub pipe : now.pipe ≡ first.pipe
+    pub floor : G.floor now.desk.keeper ≡ G.floor first.desk.keeper
+    pub progress : Progress G.can_count first.pipe bytes due (record (state_of now) { held = rest })
+
+  -- ---- the consumer
+
+  abbrev pub Went : Responder K → Responder K → List ℕ → List ℕ → Type 0
+  Went first now bytes due = (rest : List ℕ) × IsRest now.stream.reader rest
+      × HasAnswered first now bytes rest (owing now.is_begun due)
+
+  abbrev pub Gave : Responder K → Responder K → List ℕ → List ℕ → List ℕ → Type 0
+  Gave first now bytes whole last =
+      (rest : List ℕ) × HasAnswered first now bytes rest (whole ++ last)
+
+  -- the rest can become no message
+  abbrev pub Breaks : Bool → Verdict → Responder K → Responder K → List ℕ → List ℕ → List ℕ
+      → Type 0
+  Breaks more Whole first now bytes whole last = ⊥
+  Breaks more Broken first now bytes whole last = IsTrue more
+      × (last ≡ closing (output_of first.pipe.journal))
+      × ((rest : List ℕ) × IsHopeless SpellsRequest rest × HasAnswered first now bytes rest whole)
+
+  -- the input ended behind a message, or inside one
+  abbrev pub Closes : Verdict → Responder K → Responder K → List ℕ → List ℕ → List ℕ → Type 0
+  Closes Whole first now bytes whole last = (last ≡ []) × HasAnswered first now bytes [] whole
+  Closes Broken first now bytes whole last = (last ≡ closing (output_of first.pipe.journal))
+      × ((rest : List ℕ) × (rest ≢ []) × HasNoMessage SpellsRequest rest
+      × HasAnswered first now bytes rest whole)
+
+  -- a journal's last line may lack
+  abbrev pub Lacks : Responder K → Responder K → List ℕ → List ℕ → Type 0
+  Lacks first now bytes due = (rest : List ℕ) × (lacking : List ℕ)
+      × MayLack (output_of first.pipe.journal) lacking
+      × HasAnswered first now bytes rest (due ++ lacking)

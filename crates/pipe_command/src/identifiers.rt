@@ -1,0 +1,23 @@
+//! The command `id`.
+ghost use Rattle.std.specs.Prelude.{◌≡◌, ◌++◌, ◌∷◌, []};
+ghost use Rattle.asp_base.specs.Causes.{Rose};
+ghost use Rattle.session_id.specs.Identifiers.{text_of};
+ghost use Rattle.pipe_command.specs.Commands.{WritesLine};
+
+use asp_base::{Failed, Sink};
+use session_id::Id;
+use stream_run::write_text;
+
+/// Writes the identifier of 15 bytes and a line feed, and answers a status: 0, or 5 where the sink
+/// failed. It takes no memory.
+pub fn write_id<T: Sink>(random: [u8; 15], sink: &mut T) -> u8
+    ensures writes { WritesLine result (T.taken sink.old) (T.taken sink.new)
+        (text_of random ++ 10 ∷ []) }
+    ensures fault { result ≡ 5 → Rose (T.faults sink.old) (T.faults sink.new) }
+{
+    let text = Id::from_random(random).text();
+    match write_text(sink, &text, b"\n") {
+        Ok(()) => 0,
+        Err(Failed) => 5,
+    }
+}

@@ -1,0 +1,67 @@
+//! What a run of `pipe` is told, and how it ends.
+ghost use Rattle.std.specs.Prelude.{◌≡◌};
+ghost use Rattle.pipe_command.specs.PlainRun.{output_of};
+
+use stream_run::Status;
+
+/// What a run of `pipe` is told.
+#[derive(Clone, Copy, Debug, PartialEq, Eq)]
+pub struct Pipe {
+    /// The moment of the first message, in milliseconds, at most 2^62.
+    pub start: u64,
+    /// How much later each message comes than the one before it, in milliseconds, at most 2^62.
+    pub step: u64,
+    /// The first cookie, from 1 to 2^63 - 1.
+    pub first: u64,
+    /// Whether the sink gets a journal in the place of the replies.
+    pub journal: bool,
+    /// The most bytes that are taken from the source, from 1 to 2^40.
+    pub most: u64,
+}
+
+/// What a run writes.
+#[derive(Clone, Copy, Debug, PartialEq, Eq)]
+pub enum Output {
+    /// The reply to each message.
+    Replies,
+    /// The journal of what was done.
+    Journal,
+}
+
+impl Pipe {
+    /// What the run writes.
+    pub fn output(&self) -> Output
+        ensures { result ≡ output_of self.now.journal }
+    {
+        if self.journal {
+            Output::Journal
+        } else {
+            Output::Replies
+        }
+    }
+}
+
+/// What the input of a run was.
+#[derive(Clone, Copy, Debug, PartialEq, Eq, Drop)]
+pub enum Verdict {
+    /// It was whole messages, and each was answered.
+    Whole,
+    /// It was no whole messages.
+    Broken,
+}
+
+/// How a run ends.
+pub type End = stream_run::End<Verdict>;
+
+impl Status for Verdict {
+    ghost use Rattle.pipe_command.specs.Run.{verdict_number};
+
+    ghost number = { verdict_number };
+
+    fn number(&self) -> u8 {
+        match self {
+            Verdict::Whole => 0,
+            Verdict::Broken => 3,
+        }
+    }
+}

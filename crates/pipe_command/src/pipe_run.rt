@@ -1,0 +1,54 @@
+//! The top call of a run.
+ghost use Rattle.std.specs.Prelude.{◌≡◌, ◌⊎◌, ◌≤◌};
+ghost use Rattle.asp_base.specs.Causes.{Rose};
+ghost use Rattle.keeper.specs.Items.{IsEmptyTold};
+ghost use Rattle.stream_run.specs.Flow.{flow};
+ghost use Rattle.pipe_command.specs.Run.{End, PipeFits, IsRun, IsWholeInput, status_number};
+
+use crate::pipe::Pipe;
+use crate::responder::Responder;
+use asp_base::{Sink, Source};
+use keeper::{Keeper, Ran};
+use std::alloc::Global;
+use stream_run::run;
+
+/// Answers the requests on the source, one after the other, writes the replies or the journal of
+/// what was done, and hands the keeper back. It waits for nobody, and returns.
+///
+/// The status is 0 where the input was whole messages and each was answered; 3 where it was not; 4
+/// and 5 where the source or the sink failed; 6 where memory was wanting; 7 where the most bytes
+/// were taken. The first of these in time decides.
+pub fn run_pipe<S: Source, T: Sink, K: Keeper>(
+    alloc: Global,
+    pipe: Pipe,
+    source: &mut S,
+    sink: &mut T,
+    keeper: K,
+) -> Ran<K>
+    requires pipe { PipeFits pipe }
+    requires no_faults { K.count keeper ≡ 0 }
+    requires empty { IsEmptyTold (K.told keeper) }
+
+    // There is one ending, whose number is the status, and one run that ended so.
+    ensures ran { (end : End) × (result.status ≡ status_number end)
+        × IsRun K.can_count pipe
+        (flow (S.told source.old) (S.told source.new) (T.taken sink.old) (T.taken sink.new))
+        (K.told result.keeper) (K.count result.keeper) end }
+    ensures read { result.status ≡ 4 → Rose (S.faults source.old) (S.faults source.new) }
+    ensures write { result.status ≡ 5 → Rose (T.faults sink.old) (T.faults sink.new) }
+
+    // Where the input is whole messages and neither source nor sink fails, all are answered, if
+    // memory is there.
+    ensures complete { IsWholeInput (S.told source.old) pipe.most
+        → (Rose (S.faults source.old) (S.faults source.new) → ⊥)
+        → (Rose (T.faults sink.old) (T.faults sink.new) → ⊥)
+        → (result.status ≡ 0) ⊎ (result.status ≡ 6) }
+    ensures floor { K.floor result.keeper ≡ K.floor keeper }
+{
+    let mut responder = Responder::new(alloc, pipe, keeper);
+    let end = run(pipe.most, &mut responder, source, sink);
+    Ran {
+        status: end.status(),
+        keeper: responder.desk.into_keeper(),
+    }
+}
