@@ -87,10 +87,10 @@ module _ (CanCount : ℕ → Type 0) (pipe : Pipe) (bytes due front : List ℕ) 
 
     goes_on-unfit : SpellsRequest front Unfit → Answers CanCount Unfit s s' answer
         → Progress CanCount pipe bytes
-        (due ++ due_for (output_of pipe.journal) Unfit answer s'.faults) s'
+        (due ++ due_for (output_of pipe.journal) Unfit answer s'.desk.faults) s'
     goes_on-unfit spells one =
         let replied : AnswersMessage CanCount Unfit s s' answer = one.replies in
-        let desk = rw (← replied.1, ← replied.2, ← replied.3) at run.desk in
+        let desk = rw (← replied.1) at run.desk in
         record {
           messages = run.messages ++ Unfit ∷ [];
           list = run.list;
@@ -100,35 +100,35 @@ module _ (CanCount : ℕ → Type 0) (pipe : Pipe) (bytes due front : List ℕ) 
               ∙ sym (askings-push pipe.start pipe.step pipe.first 0 0 run.messages Unfit
               ∙ append-nil _);
           due_is =
-              ap (λ t. t ++ due_for (output_of pipe.journal) Unfit answer s'.faults) run.due_is
-              ∙ sym (due-unfit (output_of pipe.journal) pipe.start pipe.step pipe.first s'.faults
+              ap (λ t. t ++ due_for (output_of pipe.journal) Unfit answer s'.desk.faults) run.due_is
+              ∙ sym (due-unfit (output_of pipe.journal) pipe.start pipe.step pipe.first s'.desk.faults
               answer
               run.messages run.list replied.0 run.plain);
           desk = desk;
-          last_cookie = ap (λ k. k.last) replied.3 ∙ run.last_cookie;
+          last_cookie = ap (λ k. k.cookies.last) replied.1 ∙ run.last_cookie;
           moment = clock-next Unfit one;
           step = one.ticks.step ∙ run.step;
         }
 
     goes_on-fit : (r : Request) → SpellsRequest front (Fit r) → Answers CanCount (Fit r) s s' answer
         → Progress CanCount pipe bytes
-        (due ++ due_for (output_of pipe.journal) (Fit r) answer s'.faults) s'
+        (due ++ due_for (output_of pipe.journal) (Fit r) answer s'.desk.faults) s'
     goes_on-fit r spells one =
         record {
           messages = run.messages ++ Fit r ∷ [];
-          list = run.list ++ entry_of r answer s'.faults ∷ [];
+          list = run.list ++ entry_of r answer s'.desk.faults ∷ [];
           spelled =
               Spelled-push SpellsRequest bytes run.messages front s'.held
               (Fit r) run.spelled spells;
           plain =
-              map-append asking_of run.list (entry_of r answer s'.faults ∷ [])
+              map-append asking_of run.list (entry_of r answer s'.desk.faults ∷ [])
               ∙ ap (λ t. t ++ (0, answer.moment, Asked r, answer.drawn) ∷ []) run.plain
               ∙ ap (λ t. asking t answer.drawn) moment
               ∙ ap (asking (step_moment pipe.start pipe.step (0 + length run.messages))) drawn_is
               ∙ sym (askings-push pipe.start pipe.step pipe.first 0 0 run.messages (Fit r));
           due_is =
-              ap (λ t. t ++ due_for (output_of pipe.journal) (Fit r) answer s'.faults) run.due_is
-              ∙ sym (due-fit (output_of pipe.journal) pipe.start pipe.step pipe.first s'.faults
+              ap (λ t. t ++ due_for (output_of pipe.journal) (Fit r) answer s'.desk.faults) run.due_is
+              ∙ sym (due-fit (output_of pipe.journal) pipe.start pipe.step pipe.first s'.desk.faults
               answer
               run.messages run.list r run.plain);
           desk = stands.1;
@@ -137,10 +137,10 @@ module _ (CanCount : ℕ → Type 0) (pipe : Pipe) (bytes due front : List ℕ) 
           step = one.ticks.step ∙ run.step;
         }
       where
-        stands : (answer.drawn ≡ draw_of pipe.first s.cookies.last (draws_in run.list) r.ask)
+        stands : (answer.drawn ≡ draw_of pipe.first s.desk.cookies.last (draws_in run.list) r.ask)
             × DeskStandsFor CanCount pipe.first nothing 0
-            (run.list ++ entry_of r answer s'.faults ∷ [])
-            s'.told s'.faults s'.cookies
+            (run.list ++ entry_of r answer s'.desk.faults ∷ [])
+            s'.desk
         stands = one.replies.history pipe.first run.list run.desk
 
         drawn_is : answer.drawn ≡ draw_of pipe.first most_cookie (0 + total_draws run.messages)
@@ -168,7 +168,7 @@ pub goes_on : (CanCount : ℕ → Type 0) (pipe : Pipe) (bytes due front : List 
     (one : IsAnswered CanCount (output_of pipe.journal) Gives m s s') → SpellsRequest front m
     → Progress CanCount pipe bytes due (record s { held = front ++ s'.held })
     → Progress CanCount pipe bytes
-    (due ++ due_for (output_of pipe.journal) m one.answer s'.faults) s'
+    (due ++ due_for (output_of pipe.journal) m one.answer s'.desk.faults) s'
 goes_on CanCount pipe bytes due front Gives s s' (Fit r) one spells run =
     goes_on-fit CanCount pipe bytes due front s s' one.answer run r spells one.answers
 goes_on CanCount pipe bytes due front Gives s s' Unfit one spells run =

@@ -19,6 +19,7 @@ use Rattle.pipe_command.specs.declared.responder.Responder.{Responder}
 use Rattle.pipe_command.specs.Answering.{IsAnswered, ServerState, due_for, entry_of}
 use Rattle.pipe_command.specs.PlainRun.{MayLack, output_of}
 use Rattle.pipe_command.specs.Progress.{Progress}
+use Rattle.desk.specs.Standing.{state_of as desk_state}
 use Rattle.pipe_command.specs.Responding.{Gave, HasAnswered, IsRest, Keeps, Lacks, Waits, Went, given, owing, state_of, unbegun}
 use Rattle.pipe_command.proofs.ProgressLemmas.{Progress-fed, goes_on}
 
@@ -134,16 +135,12 @@ module _ {K : Type 0} (G : Ghosts K) (first : Responder K) where
     progress =
         subst (λ d. Progress G.can_count first.pipe bytes due (record {
           held = rest;
-          told = G.told d.keeper;
-          faults = G.count d.keeper;
-          cookies = d.cookies;
+          desk = desk_state G.told G.count d;
           clock = new.clock;
         })) (sym desk)
         (subst (λ c. Progress G.can_count first.pipe bytes due (record {
           held = rest;
-          told = G.told old.desk.keeper;
-          faults = G.count old.desk.keeper;
-          cookies = old.desk.cookies;
+          desk = desk_state G.told G.count old.desk;
           clock = c;
         })) (sym clock) has.progress);
   }

@@ -8,7 +8,7 @@ use Rattle.asp_messages.specs.declared.reply.Reply.TheVariants.{Bad}
 use Rattle.asp_messages.specs.ReplyText.{reply_text}
 use Rattle.cookie_source.specs.Counting.{Counter}
 use Rattle.desk.specs.Draws.{draw_of, draws_in}
-use Rattle.desk.specs.Standing.{DeskStandsFor}
+use Rattle.desk.specs.Standing.{DeskState, DeskStandsFor}
 use Rattle.journal_text.specs.JournalText.{entry_line}
 use Rattle.session_machine.specs.declared.entry.Entry.{Entry}
 use Rattle.session_machine.specs.declared.item.Item.{Item}
@@ -18,12 +18,10 @@ use Rattle.pipe_command.specs.declared.pipe.Output.{Output}
 use Rattle.pipe_command.specs.declared.pipe.Output.TheVariants.{Replies, Journal}
 use Rattle.pipe_command.specs.declared.responder.Answer.{Answer}
 
--- A server: the bytes held, what its keeper tells and counts, the cookies that are left, the clock.
+-- A server: the bytes held, the state of its desk, the clock.
 pub record ServerState : Type 0 where
   pub held : List ℕ
-  pub told : Option (List ℕ → Option Item)
-  pub faults : ℕ
-  pub cookies : Counter
+  pub desk : DeskState
   pub clock : Ticking
 
 -- a fact of the request of a message that is one
@@ -40,18 +38,17 @@ entry_of r answer faults = asked_entry 0 answer.moment r answer.drawn answer.rep
 pub record AnswersRequest (CanCount : ℕ → Type 0) (r : Request) (old new : ServerState)
     (answer : Answer) : Type 0 where
   pub history : (first : ℕ) (list : List Entry)
-      → DeskStandsFor CanCount first nothing 0 list old.told old.faults old.cookies
-      → (answer.drawn ≡ draw_of first old.cookies.last (draws_in list) r.ask)
-      × DeskStandsFor CanCount first nothing 0 (list ++ entry_of r answer new.faults ∷ [])
-      new.told new.faults new.cookies
-  pub last : new.cookies.last ≡ old.cookies.last
+      → DeskStandsFor CanCount first nothing 0 list old.desk
+      → (answer.drawn ≡ draw_of first old.desk.cookies.last (draws_in list) r.ask)
+      × DeskStandsFor CanCount first nothing 0 (list ++ entry_of r answer new.desk.faults ∷ [])
+      new.desk
+  pub last : new.desk.cookies.last ≡ old.desk.cookies.last
 
 -- a message was answered; one that is no request changes nothing
 abbrev pub AnswersMessage : (ℕ → Type 0) → Message → ServerState → ServerState → Answer → Type 0
 AnswersMessage CanCount (Fit r) old new answer = AnswersRequest CanCount r old new answer
 AnswersMessage CanCount Unfit old new answer =
-    (answer.reply ≡ Bad) × (new.told ≡ old.told) × (new.faults ≡ old.faults)
-    × (new.cookies ≡ old.cookies)
+    (answer.reply ≡ Bad) × (new.desk ≡ old.desk)
 
 -- The clock went on by one moment.
 pub record Ticks (old new : Ticking) : Type 0 where
@@ -80,4 +77,4 @@ pub record IsAnswered (CanCount : ℕ → Type 0) (output : Output) (Gives : Lis
     (m : Message) (old new : ServerState) : Type 0 where
   pub answer : Answer
   pub answers : Answers CanCount m old new answer
-  pub gives : Gives (due_for output m answer new.faults)
+  pub gives : Gives (due_for output m answer new.desk.faults)

@@ -29,7 +29,7 @@ pub record Progress (CanCount : ℕ → Type 0) (pipe : Pipe) (bytes due : List 
   pub spelled : Spelled SpellsRequest bytes messages s.held
   pub plain : IsPlainRun pipe.start pipe.step pipe.first messages list
   pub due_is : due ≡ written_as (output_of pipe.journal) messages list
-  pub desk : DeskStandsFor CanCount pipe.first nothing 0 list s.told s.faults s.cookies
-  pub last_cookie : s.cookies.last ≡ most_cookie
+  pub desk : DeskStandsFor CanCount pipe.first nothing 0 list s.desk
+  pub last_cookie : s.desk.cookies.last ≡ most_cookie
   pub moment : s.clock.next ≡ step_moment pipe.start pipe.step (length messages)
   pub step : s.clock.step ≡ pipe.step

@@ -3,6 +3,7 @@ use Rattle.std.specs.Prelude.{◌≡◌, ◌≢◌, ◌⊎◌, ℕ, Bool, true, 
 use Rattle.asp_messages.specs.RequestSpelling.{SpellsRequest}
 use Rattle.asp_messages.specs.Stream.{HasNoMessage, IsHopeless}
 use Rattle.journal_text.specs.JournalText.{journal_text}
+use Rattle.desk.specs.Standing.{state_of as desk_state}
 use Rattle.keeper.specs.declared.keeping.Keeper.{Ghosts}
 use Rattle.message_framing.specs.Held.{Held}
 use Rattle.pipe_command.specs.declared.pipe.Verdict.{Verdict}
@@ -46,9 +47,7 @@ module _ {K : Type 0} (G : Ghosts K) where
   abbrev pub state_of : Responder K → ServerState
   state_of now = record {
     held = now.stream.reader.held;
-    told = G.told now.desk.keeper;
-    faults = G.count now.desk.keeper;
-    cookies = now.desk.cookies;
+    desk = desk_state G.told G.count now.desk;
     clock = now.clock;
   }
 
