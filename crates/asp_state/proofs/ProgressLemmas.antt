@@ -21,7 +21,7 @@ use Rattle.asp_state.specs.declared.pipe.Output.{Output}
 use Rattle.asp_state.specs.declared.pipe.Output.TheVariants as outputs
 use Rattle.asp_state.specs.declared.pipe.Pipe.{Pipe}
 use Rattle.asp_state.specs.declared.responder.Answer.{Answer}
-use Rattle.asp_state.specs.Answering.{Answers, AnswersMessage, IfFit, IsAnswered, ServerState, due_for, entry_of}
+use Rattle.asp_state.specs.Answering.{Answers, AnswersMessage, IfFit, IsAnswered, ServerState, desk_state, due_for, entry_of}
 use Rattle.asp_state.specs.PlainRun.{Asking, asking_of, askings, output_of, written_as}
 use Rattle.asp_state.specs.Progress.{Progress, total_draws}
 use Rattle.asp_state.proofs.PlainRunLemmas.{askings-push, draws_in-plain, written-unfit, written-fit, journal_text-push}
@@ -139,8 +139,7 @@ module _ (CanCount : ℕ → Type 0) (pipe : Pipe) (bytes due front : List ℕ) 
       where
         stands : (answer.drawn ≡ draw_of pipe.first s.cookies.last (draws_in run.list) r.ask)
             × DeskStandsFor CanCount pipe.first nothing 0
-            (run.list ++ entry_of r answer s'.faults ∷ [])
-            s'.told s'.faults s'.cookies
+            (run.list ++ entry_of r answer s'.faults ∷ []) (desk_state s')
         stands = one.replies.history pipe.first run.list run.desk
 
         drawn_is : answer.drawn ≡ draw_of pipe.first most_cookie (0 + total_draws run.messages)

@@ -8,7 +8,7 @@ use Rattle.asp_messages.specs.declared.reply.Reply.TheVariants.{Bad}
 use Rattle.asp_messages.specs.ReplyText.{reply_text}
 use Rattle.cookie_source.specs.Counting.{Counter}
 use Rattle.desk.specs.Draws.{draw_of, draws_in}
-use Rattle.desk.specs.Standing.{DeskStandsFor}
+use Rattle.desk.specs.Standing.{DeskState, DeskStandsFor}
 use Rattle.journal_text.specs.JournalText.{entry_line}
 use Rattle.session_machine.specs.declared.entry.Entry.{Entry}
 use Rattle.session_machine.specs.declared.item.Item.{Item}
@@ -26,6 +26,14 @@ pub record ServerState : Type 0 where
   pub cookies : Counter
   pub clock : Ticking
 
+-- the state of a server's desk
+abbrev pub desk_state : ServerState → DeskState
+desk_state server = record {
+  told = server.told;
+  faults = server.faults;
+  cookies = server.cookies;
+}
+
 -- a fact of the request of a message that is one
 abbrev pub IfFit : Message → (Request → Type 0) → Type 0
 IfFit (Fit r) P = P r
@@ -40,10 +48,10 @@ entry_of r answer faults = asked_entry 0 answer.moment r answer.drawn answer.rep
 pub record AnswersRequest (CanCount : ℕ → Type 0) (r : Request) (old new : ServerState)
     (answer : Answer) : Type 0 where
   pub history : (first : ℕ) (list : List Entry)
-      → DeskStandsFor CanCount first nothing 0 list old.told old.faults old.cookies
+      → DeskStandsFor CanCount first nothing 0 list (desk_state old)
       → (answer.drawn ≡ draw_of first old.cookies.last (draws_in list) r.ask)
       × DeskStandsFor CanCount first nothing 0 (list ++ entry_of r answer new.faults ∷ [])
-      new.told new.faults new.cookies
+      (desk_state new)
   pub last : new.cookies.last ≡ old.cookies.last
 
 -- a message was answered; one that is no request changes nothing

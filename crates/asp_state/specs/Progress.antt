@@ -12,7 +12,7 @@ use Rattle.session_machine.specs.declared.entry.Entry.{Entry}
 use Rattle.session_machine.specs.History.{nothing}
 use Rattle.asp_state.specs.declared.pipe.Pipe.{Pipe}
 use Rattle.asp_state.specs.PlainRun.{IsPlainRun, output_of, written_as}
-use Rattle.asp_state.specs.Answering.{ServerState}
+use Rattle.asp_state.specs.Answering.{ServerState, desk_state}
 
 -- how many cookies the messages draw
 abbrev pub total_draws : List Message → ℕ
@@ -29,7 +29,7 @@ pub record Progress (CanCount : ℕ → Type 0) (pipe : Pipe) (bytes due : List 
   pub spelled : Spelled SpellsRequest bytes messages s.held
   pub plain : IsPlainRun pipe.start pipe.step pipe.first messages list
   pub due_is : due ≡ written_as (output_of pipe.journal) messages list
-  pub desk : DeskStandsFor CanCount pipe.first nothing 0 list s.told s.faults s.cookies
+  pub desk : DeskStandsFor CanCount pipe.first nothing 0 list (desk_state s)
   pub last_cookie : s.cookies.last ≡ most_cookie
   pub moment : s.clock.next ≡ step_moment pipe.start pipe.step (length messages)
   pub step : s.clock.step ≡ pipe.step
