@@ -5,7 +5,7 @@ use Rattle.session_machine.specs.declared.entry.Entry.{Entry}
 use Rattle.session_machine.specs.declared.entry.Deed.{Deed}
 use Rattle.session_machine.specs.declared.entry.Deed.TheVariants.{Asked, Expired, Looked}
 use Rattle.session_machine.specs.declared.item.Item.{Item}
-use Rattle.session_machine.specs.History.{DeedFits, DeedStands, IsFormed, IsLegal, LookStands, after_deed, has_risen, is_deed_of, nothing}
+use Rattle.session_machine.specs.History.{DeedFits, DeedStands, circumstances_of, IsFormed, IsLegal, LookStands, after_deed, has_risen, is_deed_of, nothing}
 use Rattle.session_machine.proofs.HistoryLemmas.{IsLegal-push, count_after-push, greatest_draw-push, item_after-other, item_after-same}
 use Rattle.journal_text.specs.declared.judgement.Why.{Why}
 use Rattle.journal_text.specs.Checking.{Known, Knows, item_among}
@@ -17,13 +17,13 @@ module _ (before : List Entry) (e : Entry) (old new : List (List ℕ × Item))
     (are : (key : List ℕ) → item_among old key ≡ item_before before key) where
   -- a deed that is done stands
   done-stands : (deed : Deed) → DeedFits deed e.drawn e.reply
-      → IsDone old new deed e.moment e.drawn (rose_with before e) e.reply
+      → IsDone old new deed (circumstances_of (rose_with before e) e) e.reply
       → (key : List ℕ) → is_deed_of key deed ≡ true
       → DeedStands (item_before before key) (rose_with before e) deed e
   done-stands (Asked request) fits done key same =
       subst (λ o. DeedStands o (rose_with before e) (Asked request) e)
       (are request.key ∙ ap (item_before before) (sym (bytes_eq-same key request.key same)))
-      (right-steps (item_among old request.key) e.moment e.drawn request.ask (rose_with before e)
+      (right-steps (item_among old request.key) request.ask (circumstances_of (rose_with before e) e)
       e.reply done.0)
   done-stands (Expired other) fits done key same =
       subst (λ o. DeedStands o (rose_with before e) (Expired other) e)
@@ -31,14 +31,14 @@ module _ (before : List Entry) (e : Entry) (old new : List (List ℕ × Item))
       (done.0, fits.2)
   done-stands Looked fits done key same = tt
 
-  done-looks : (deed : Deed) → IsDone old new deed e.moment e.drawn (rose_with before e) e.reply
+  done-looks : (deed : Deed) → IsDone old new deed (circumstances_of (rose_with before e) e) e.reply
       → LookStands (rose_with before e) deed e.reply
   done-looks (Asked request) done = tt
   done-looks (Expired key) done = tt
   done-looks Looked done = right-looks (rose_with before e) e.reply done.0
 
   -- what it leaves of its key's item
-  done-same : (deed : Deed) → IsDone old new deed e.moment e.drawn (rose_with before e) e.reply
+  done-same : (deed : Deed) → IsDone old new deed (circumstances_of (rose_with before e) e) e.reply
       → (key : List ℕ) → is_deed_of key deed ≡ true
       → item_among new key ≡ after_deed (item_before before key) deed e
   done-same (Asked request) done key same =
@@ -50,7 +50,7 @@ module _ (before : List Entry) (e : Entry) (old new : List (List ℕ × Item))
   done-same Looked done key same = absurd (cc same)
 
   -- and of the others
-  done-others : (deed : Deed) → IsDone old new deed e.moment e.drawn (rose_with before e) e.reply
+  done-others : (deed : Deed) → IsDone old new deed (circumstances_of (rose_with before e) e) e.reply
       → (key : List ℕ) → is_deed_of key deed ≡ false
       → item_among new key ≡ item_before before key
   done-others (Asked request) done key other = done.1.others key other ∙ are key
@@ -60,7 +60,7 @@ module _ (before : List Entry) (e : Entry) (old new : List (List ℕ × Item))
   -- what bars a deed is a reason
   barred-reason : (deed : Deed) (why : Why) → e.deed ≡ deed → KeepsCount before e
       → RaisesDraw before e
-      → IsBarred old deed e.moment e.drawn (rose_with before e) e.reply why → IsReason before e why
+      → IsBarred old deed (circumstances_of (rose_with before e) e) e.reply why → IsReason before e why
   barred-reason (Asked request) why is kept raised barred =
       subst (IsReason before e) (sym barred.0) (
         kept,
@@ -102,7 +102,7 @@ module _ (known : Known) (before : List Entry) (e : Entry) (formed : IsFormed e)
 
     -- an entry whose deed is done goes on
     pub admitted : (items : List (List ℕ × Item)) → IsLegal nothing 0 before
-        → IsDone known.items items e.deed e.moment e.drawn (has_risen known.count e.faults) e.reply
+        → IsDone known.items items e.deed (circumstances_of (has_risen known.count e.faults) e) e.reply
         → IsLegal nothing 0 (before ++ e ∷ [])
         × Knows (record { count = e.faults; draw = max known.draw e.drawn; items = items })
         (before ++ e ∷ [])
@@ -122,9 +122,9 @@ module _ (known : Known) (before : List Entry) (e : Entry) (formed : IsFormed e)
       },
     )
       where
-        is_done : IsDone known.items items e.deed e.moment e.drawn (rose_with before e) e.reply
-        is_done = subst (λ n. IsDone known.items items e.deed e.moment e.drawn
-            (has_risen n e.faults) e.reply) knows.count done
+        is_done : IsDone known.items items e.deed (circumstances_of (rose_with before e) e) e.reply
+        is_done = subst (λ n. IsDone known.items items e.deed
+            (circumstances_of (has_risen n e.faults) e) e.reply) knows.count done
 
         by_key : (key : List ℕ) (b : Bool) → is_deed_of key e.deed ≡ b
             → item_among items key ≡ item_before (before ++ e ∷ []) key
@@ -134,9 +134,9 @@ module _ (known : Known) (before : List Entry) (e : Entry) (formed : IsFormed e)
             key other ∙ sym (item_after-other nothing 0 before e key other)
 
     -- one whose deed is barred may not
-    pub barred : (why : Why) → IsBarred known.items e.deed e.moment e.drawn
-        (has_risen known.count e.faults) e.reply why → IsReason before e why
+    pub barred : (why : Why) → IsBarred known.items e.deed
+        (circumstances_of (has_risen known.count e.faults) e) e.reply why → IsReason before e why
     barred why bars =
         barred-reason before e known.items [] knows.items e.deed why refl kept draws
-        (subst (λ n. IsBarred known.items e.deed e.moment e.drawn (has_risen n e.faults) e.reply
+        (subst (λ n. IsBarred known.items e.deed (circumstances_of (has_risen n e.faults) e) e.reply
         why) knows.count bars)

@@ -10,8 +10,8 @@ use Rattle.session_machine.specs.declared.entry.Entry.{Entry}
 use Rattle.session_machine.specs.declared.entry.Deed.{Deed}
 use Rattle.session_machine.specs.declared.entry.Deed.TheVariants.{Asked, Expired, Looked}
 use Rattle.session_machine.specs.declared.item.Item.{Item}
-use Rattle.session_machine.specs.Machine.{Effect, effect, Step}
-use Rattle.session_machine.specs.History.{DeedFits, DeedStands, IsDead, IsLegal, LookStands, after_reply, is_deed_of, nothing}
+use Rattle.session_machine.specs.Machine.{Circumstances, Effect, effect, Step}
+use Rattle.session_machine.specs.History.{DeedFits, DeedStands, circumstances_of, IsDead, IsLegal, LookStands, after_reply, is_deed_of, nothing}
 use Rattle.session_machine.proofs.HistoryLemmas.{MayFollow, IsLegal-at}
 use Rattle.journal_text.specs.declared.judgement.Judgement.{Judgement}
 use Rattle.journal_text.specs.declared.judgement.Judgement.TheVariants.{Legal, Illegal}
@@ -44,40 +44,40 @@ right-not_wrong rose due replies.CookiesOut right wrong = wrong right
 right-not_wrong rose due replies.PlacesOut right wrong = wrong right
 
 -- a step's reply is right
-step-right : (old : Option Item) (t drawn : ℕ) (ask : Ask) (rose : Bool) (reply : Reply)
-    (new : Option Item) → Step old t drawn ask rose reply new
-    → IsRightReply rose (effect old t drawn ask).0 reply
-step-right old t drawn ask rose replies.NoMemory new h = tt
-step-right old t drawn ask rose replies.KeeperFault new h = h.0
-step-right old t drawn ask rose (replies.Found body minutes cookie first) new h =
+step-right : (old : Option Item) (ask : Ask) (at : Circumstances) (reply : Reply)
+    (new : Option Item) → Step old ask at reply new
+    → IsRightReply at.rose (effect old at.moment at.drawn ask).0 reply
+step-right old ask at replies.NoMemory new h = tt
+step-right old ask at replies.KeeperFault new h = h.0
+step-right old ask at (replies.Found body minutes cookie first) new h =
     ap (λ (x : Effect). x.0) h
-step-right old t drawn ask rose replies.Done new h = ap (λ (x : Effect). x.0) h
-step-right old t drawn ask rose (replies.Locked cookie a) new h = ap (λ (x : Effect). x.0) h
-step-right old t drawn ask rose replies.Missing new h = ap (λ (x : Effect). x.0) h
-step-right old t drawn ask rose replies.Bad new h = ap (λ (x : Effect). x.0) h
-step-right old t drawn ask rose replies.CookiesOut new h = ap (λ (x : Effect). x.0) h
-step-right old t drawn ask rose replies.PlacesOut new h = ap (λ (x : Effect). x.0) h
+step-right old ask at replies.Done new h = ap (λ (x : Effect). x.0) h
+step-right old ask at (replies.Locked cookie a) new h = ap (λ (x : Effect). x.0) h
+step-right old ask at replies.Missing new h = ap (λ (x : Effect). x.0) h
+step-right old ask at replies.Bad new h = ap (λ (x : Effect). x.0) h
+step-right old ask at replies.CookiesOut new h = ap (λ (x : Effect). x.0) h
+step-right old ask at replies.PlacesOut new h = ap (λ (x : Effect). x.0) h
 
 -- a right reply is a step's
-pub right-steps : (old : Option Item) (t drawn : ℕ) (ask : Ask) (rose : Bool) (reply : Reply)
-    → IsRightReply rose (effect old t drawn ask).0 reply
-    → Step old t drawn ask rose reply (after_reply old t drawn ask reply)
-right-steps old t drawn ask rose replies.NoMemory h = refl
-right-steps old t drawn ask rose replies.KeeperFault h = (h, refl)
-right-steps old t drawn ask rose (replies.Found body minutes cookie first) h =
-    ap (λ (r : Reply). (r, (effect old t drawn ask).1)) h
-right-steps old t drawn ask rose replies.Done h =
-    ap (λ (r : Reply). (r, (effect old t drawn ask).1)) h
-right-steps old t drawn ask rose (replies.Locked cookie a) h =
-    ap (λ (r : Reply). (r, (effect old t drawn ask).1)) h
-right-steps old t drawn ask rose replies.Missing h =
-    ap (λ (r : Reply). (r, (effect old t drawn ask).1)) h
-right-steps old t drawn ask rose replies.Bad h =
-    ap (λ (r : Reply). (r, (effect old t drawn ask).1)) h
-right-steps old t drawn ask rose replies.CookiesOut h =
-    ap (λ (r : Reply). (r, (effect old t drawn ask).1)) h
-right-steps old t drawn ask rose replies.PlacesOut h =
-    ap (λ (r : Reply). (r, (effect old t drawn ask).1)) h
+pub right-steps : (old : Option Item) (ask : Ask) (at : Circumstances) (reply : Reply)
+    → IsRightReply at.rose (effect old at.moment at.drawn ask).0 reply
+    → Step old ask at reply (after_reply old at.moment at.drawn ask reply)
+right-steps old ask at replies.NoMemory h = refl
+right-steps old ask at replies.KeeperFault h = (h, refl)
+right-steps old ask at (replies.Found body minutes cookie first) h =
+    ap (λ (r : Reply). (r, (effect old at.moment at.drawn ask).1)) h
+right-steps old ask at replies.Done h =
+    ap (λ (r : Reply). (r, (effect old at.moment at.drawn ask).1)) h
+right-steps old ask at (replies.Locked cookie a) h =
+    ap (λ (r : Reply). (r, (effect old at.moment at.drawn ask).1)) h
+right-steps old ask at replies.Missing h =
+    ap (λ (r : Reply). (r, (effect old at.moment at.drawn ask).1)) h
+right-steps old ask at replies.Bad h =
+    ap (λ (r : Reply). (r, (effect old at.moment at.drawn ask).1)) h
+right-steps old ask at replies.CookiesOut h =
+    ap (λ (r : Reply). (r, (effect old at.moment at.drawn ask).1)) h
+right-steps old ask at replies.PlacesOut h =
+    ap (λ (r : Reply). (r, (effect old at.moment at.drawn ask).1)) h
 
 -- a look's reply is right
 look-right : (rose : Bool) (drawn : ℕ) (reply : Reply) → DeedFits Looked drawn reply
@@ -117,8 +117,8 @@ module _ (before : List Entry) (e : Entry) where
       → LookStands (rose_with before e) deed e.reply
       → IsRightReply (rose_with before e) (reply_due before e deed) e.reply
   follows-right (Asked request) fits keys looks =
-      step-right (item_before before request.key) e.moment e.drawn request.ask (rose_with before e)
-      e.reply _ (keys request.key (bytes_eq-refl request.key))
+      step-right (item_before before request.key) request.ask
+      (circumstances_of (rose_with before e) e) e.reply _ (keys request.key (bytes_eq-refl request.key))
   follows-right (Expired key) fits keys looks = done-right (rose_with before e) e.reply fits.2
   follows-right Looked fits keys looks = look-right (rose_with before e) e.drawn e.reply fits looks
 

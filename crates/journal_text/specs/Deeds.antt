@@ -8,7 +8,7 @@ use Rattle.session_machine.specs.declared.entry.Deed.{Deed}
 use Rattle.session_machine.specs.declared.entry.Deed.TheVariants.{Asked, Expired, Looked}
 use Rattle.session_machine.specs.declared.item.Item.{Item}
 use Rattle.session_machine.specs.Liveness.{ItemFits}
-use Rattle.session_machine.specs.Machine.{effect}
+use Rattle.session_machine.specs.Machine.{Circumstances, effect}
 use Rattle.session_machine.specs.History.{IsDead, after_reply}
 use Rattle.journal_text.specs.declared.judgement.Why.{Why}
 use Rattle.journal_text.specs.declared.judgement.Why.TheVariants.{NotDue, WrongReply}
@@ -39,10 +39,10 @@ abbrev pub own_reply : Option Item → ℕ → ℕ → Request → Reply
 own_reply old t drawn request = (effect old t drawn request.ask).0
 
 -- the reply is none that the request may be given
-abbrev pub IsWrongThere : Option Item → ℕ → ℕ → Bool → Request → Reply → Why → Type 0
-IsWrongThere old t drawn rose request reply why =
-    (why ≡ WrongReply (own_reply old t drawn request) reply)
-    × IsWrongReply rose (own_reply old t drawn request) reply
+abbrev pub IsWrongThere : Option Item → Request → Circumstances → Reply → Why → Type 0
+IsWrongThere old request at reply why =
+    (why ≡ WrongReply (own_reply old at.moment at.drawn request) reply)
+    × IsWrongReply at.rose (own_reply old at.moment at.drawn request) reply
 
 -- what is left is the new item, or nothing, and the item that was there is still to be removed
 abbrev pub IsLeft : Option Item → List ℕ → Item → Item → Left → Type 0
@@ -51,29 +51,26 @@ IsLeft after key old new left.Item = after ≡ Some new
 IsLeft after key old new (left.Nothing gone) = (after ≡ None) × (gone ≡ key) × (new ≡ old)
 
 -- what a request leaves of the item that is there, or why it may not have been answered so
-abbrev pub Leaves : Item → Item → ℕ → ℕ → Bool → Request → Reply → Left → Type 0
-Leaves old new t drawn rose request reply (left.Wrong why) =
-    IsWrongThere (Some old) t drawn rose request reply why
-Leaves old new t drawn rose request reply left =
-    IsRightReply rose (own_reply (Some old) t drawn request) reply
-    × IsLeft (after_reply (Some old) t drawn request.ask reply) request.key old new left
+abbrev pub Leaves : Item → Item → Request → Circumstances → Reply → Left → Type 0
+Leaves old new request at reply (left.Wrong why) = IsWrongThere (Some old) request at reply why
+Leaves old new request at reply left =
+    IsRightReply at.rose (own_reply (Some old) at.moment at.drawn request) reply
+    × IsLeft (after_reply (Some old) at.moment at.drawn request.ask reply) request.key old new left
 
 -- the deed may be done, and leaves the items so
-abbrev pub IsDone : List (List ℕ × Item) → List (List ℕ × Item) → Deed → ℕ → ℕ → Bool → Reply
+abbrev pub IsDone : List (List ℕ × Item) → List (List ℕ × Item) → Deed → Circumstances → Reply
     → Type 0
-IsDone old new (Asked request) t drawn rose reply =
-    IsRightReply rose (own_reply (item_among old request.key) t drawn request) reply
-    × ReplacesItem old new request.key (after_reply (item_among old request.key) t drawn request.ask
-    reply)
-IsDone old new (Expired key) t drawn rose reply = IsDead (item_among old key) t
+IsDone old new (Asked request) at reply =
+    IsRightReply at.rose (own_reply (item_among old request.key) at.moment at.drawn request) reply
+    × ReplacesItem old new request.key (after_reply (item_among old request.key) at.moment at.drawn
+    request.ask reply)
+IsDone old new (Expired key) at reply = IsDead (item_among old key) at.moment
     × ReplacesItem old new key None
-IsDone old new Looked t drawn rose reply = IsRightReply rose Done reply × (new ≡ old)
+IsDone old new Looked at reply = IsRightReply at.rose Done reply × (new ≡ old)
 
 -- the deed may not be done
-abbrev pub IsBarred : List (List ℕ × Item) → Deed → ℕ → ℕ → Bool → Reply → Why → Type 0
-IsBarred old (Asked request) t drawn rose reply why =
-    IsWrongThere (item_among old request.key) t drawn rose request reply why
-IsBarred old (Expired key) t drawn rose reply why = (why ≡ NotDue)
-    × IsNotDead (item_among old key) t
-IsBarred old Looked t drawn rose reply why = (why ≡ WrongReply Done reply)
-    × IsWrongReply rose Done reply
+abbrev pub IsBarred : List (List ℕ × Item) → Deed → Circumstances → Reply → Why → Type 0
+IsBarred old (Asked request) at reply why =
+    IsWrongThere (item_among old request.key) request at reply why
+IsBarred old (Expired key) at reply why = (why ≡ NotDue) × IsNotDead (item_among old key) at.moment
+IsBarred old Looked at reply why = (why ≡ WrongReply Done reply) × IsWrongReply at.rose Done reply

@@ -4,6 +4,7 @@ ghost use Rattle.asp_messages.specs.Ranges.{RequestFits};
 ghost use Rattle.session_machine.specs.declared.entry.Deed.TheVariants.{Asked};
 ghost use Rattle.session_machine.specs.History.{DrawFits};
 ghost use Rattle.session_machine.specs.Liveness.{ItemFits};
+ghost use Rattle.session_machine.specs.Machine.{Circumstances};
 ghost use Rattle.session_machine.specs.Verdicts.{changed, body_asked};
 ghost use Rattle.journal_text.specs.Checking.{item_among};
 ghost use Rattle.journal_text.specs.Deeds.{IsBarred, IsDone, IsLeft, ItemsFit, Leaves, ReplacesItem};
@@ -90,7 +91,8 @@ fn ask_there(
     requires request { RequestFits request }
     requires drawn { DrawFits request.ask drawn }
     requires item { ItemFits item.old }
-    ensures left { IfOk result (Leaves item.old item.new t drawn rose request reply) }
+    ensures left { IfOk result (Leaves item.old item.new request
+        (record { moment = t; drawn = drawn; rose = rose }) reply) }
     ensures fits { ItemFits item.new }
     ensures err { OnErr result (item.new ≡ item.old) }
 {
@@ -153,9 +155,10 @@ fn ask_absent(
     requires drawn { DrawFits request.ask drawn }
     requires absent { item_among items.old.entries request.key ≡ None }
     requires fits { ItemsFit items.old.entries }
-    ensures asked { IfOk result (λ why. MatchOption why
-        (IsDone items.old.entries items.new.entries (Asked request) t drawn rose reply)
-        (IsBarred items.old.entries (Asked request) t drawn rose reply)) }
+    ensures asked { let at : Circumstances = record { moment = t; drawn = drawn; rose = rose } in
+        IfOk result (λ why. MatchOption why
+        (IsDone items.old.entries items.new.entries (Asked request) at reply)
+        (IsBarred items.old.entries (Asked request) at reply)) }
     ensures fits { ItemsFit items.new.entries }
     ensures err { OnErr result (items.new.entries ≡ items.old.entries) }
 {
@@ -182,9 +185,10 @@ pub fn ask(
     requires request { RequestFits request }
     requires drawn { DrawFits request.ask drawn }
     requires fits { ItemsFit items.old.entries }
-    ensures asked { IfOk result (λ why. MatchOption why
-        (IsDone items.old.entries items.new.entries (Asked request) t drawn rose reply)
-        (IsBarred items.old.entries (Asked request) t drawn rose reply)) }
+    ensures asked { let at : Circumstances = record { moment = t; drawn = drawn; rose = rose } in
+        IfOk result (λ why. MatchOption why
+        (IsDone items.old.entries items.new.entries (Asked request) at reply)
+        (IsBarred items.old.entries (Asked request) at reply)) }
     ensures fits { ItemsFit items.new.entries }
     ensures err { OnErr result (items.new.entries ≡ items.old.entries) }
 {

@@ -4,6 +4,7 @@ ghost use Rattle.asp_messages.specs.declared.reply.Reply.TheVariants.{Done};
 ghost use Rattle.session_machine.specs.declared.entry.Deed.TheVariants.{Expired};
 ghost use Rattle.session_machine.specs.declared.entry.Entry.{Entry};
 ghost use Rattle.session_machine.specs.History.{DeedFits, IsFormed, IsLegal, nothing};
+ghost use Rattle.session_machine.specs.Machine.{Circumstances};
 ghost use Rattle.journal_text.specs.Checking.{Knows, KnowsWhileLegal};
 ghost use Rattle.journal_text.specs.Deeds.{IsBarred, IsDone, ItemsFit};
 ghost use Rattle.journal_text.specs.Judging.{IsReason, Judges};
@@ -41,9 +42,9 @@ impl Model for Standing {
 /// An expiry: the item that had expired is removed.
 fn expire(items: &mut BTreeMap<Bytes, Item>, key: &Bytes, t: u64) -> Option<Why>
     requires fits { ItemsFit items.old.entries }
-    ensures expired { MatchOption result (IsDone items.old.entries items.new.entries
-        (Expired key.now) t 0 false Done) (IsBarred items.old.entries (Expired key.now) t 0 false
-        Done) }
+    ensures expired { let at : Circumstances = record { moment = t; drawn = 0; rose = false } in
+        MatchOption result (IsDone items.old.entries items.new.entries (Expired key.now) at Done)
+        (IsBarred items.old.entries (Expired key.now) at Done) }
     ensures fits { ItemsFit items.new.entries }
 {
     match items.remove(key) {
@@ -65,9 +66,10 @@ fn act(
     requires moment { t ≤ 2 ^ 62 }
     requires deed { DeedFits deed drawn reply }
     requires fits { ItemsFit items.old.entries }
-    ensures acted { IfOk result (λ why. MatchOption why
-        (IsDone items.old.entries items.new.entries deed t drawn rose reply)
-        (IsBarred items.old.entries deed t drawn rose reply)) }
+    ensures acted { let at : Circumstances = record { moment = t; drawn = drawn; rose = rose } in
+        IfOk result (λ why. MatchOption why
+        (IsDone items.old.entries items.new.entries deed at reply)
+        (IsBarred items.old.entries deed at reply)) }
     ensures fits { ItemsFit items.new.entries }
     ensures err { OnErr result (items.new.entries ≡ items.old.entries) }
 {

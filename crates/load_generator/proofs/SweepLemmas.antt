@@ -2,8 +2,7 @@
 use Rattle.std.proofs.Common.{◌≡◌, ℕ, ◌+◌, ◌<◌, List, [], ◌∷◌, ◌++◌, Option, None, refl, sym, arith, subst, inl, inr, append_assoc, append-nil, length-append}
 use Rattle.asp_base.specs.declared.bytes.Bytes.{Bytes}
 use Rattle.asp_base.specs.Moments.{last_moment}
-use Rattle.cookie_source.specs.Counting.{Counter}
-use Rattle.desk.specs.Standing.{DeskStandsFor}
+use Rattle.desk.specs.Standing.{DeskState, DeskStandsFor}
 use Rattle.keeper.specs.Due.{TellsDue}
 use Rattle.session_machine.specs.declared.entry.Entry.{Entry}
 use Rattle.session_machine.specs.declared.item.Item.{Item}
@@ -32,72 +31,67 @@ not_removed swept.KeeperFault other = tt
 not_removed swept.NoMemory other = tt
 
 pub Removes-none : (CanCount : ℕ → Type 0) (first : ℕ) (list : List Entry)
-    (told : Option (List ℕ → Option Item)) (now : ℕ) (cookies : Counter)
-    → DeskStandsFor CanCount first nothing 0 list told now cookies
-    → Removes CanCount first list told now cookies 0
-Removes-none CanCount first list told now cookies stand = record {
+    (state : DeskState)
+    → DeskStandsFor CanCount first nothing 0 list state → Removes CanCount first list state 0
+Removes-none CanCount first list state stand = record {
   removals = [];
   expired = tt;
   counted = refl;
-  desk = subst (λ (l : List Entry). DeskStandsFor CanCount first nothing 0 l told now cookies)
+  desk = subst (λ (l : List Entry). DeskStandsFor CanCount first nothing 0 l state)
       (sym (append-nil list)) stand;
 }
 
 pub Removes-push : (CanCount : ℕ → Type 0) (first : ℕ) (list : List Entry)
-    (told told' : Option (List ℕ → Option Item)) (now now' : ℕ) (cookies cookies' : Counter)
-    (removed : ℕ) (key : List ℕ)
-    → (before : Removes CanCount first list told now cookies removed)
+    (old new : DeskState) (removed : ℕ) (key : List ℕ)
+    → (before : Removes CanCount first list old removed)
     → DeskStandsFor CanCount first nothing 0 ((list ++ before.removals)
-    ++ swept_entry 0 last_moment (swept.Removed key) now' ∷ []) told' now' cookies'
-    → Removes CanCount first list told' now' cookies' (removed + 1)
-Removes-push CanCount first list told told' now now' cookies cookies' removed key before stand =
+    ++ swept_entry 0 last_moment (swept.Removed key) new.faults ∷ []) new
+    → Removes CanCount first list new (removed + 1)
+Removes-push CanCount first list old new removed key before stand =
     record {
       removals = before.removals ++ entry ∷ [];
       expired = All-push IsRemoval before.removals entry before.expired (tt, refl, refl);
       counted = let so_far = before.counted in let more =
           length-append before.removals (entry ∷ []) in
           omega (arith, so_far, more);
-      desk = subst (λ (l : List Entry). DeskStandsFor CanCount first nothing 0 l told' now'
-          cookies')
+      desk = subst (λ (l : List Entry). DeskStandsFor CanCount first nothing 0 l new)
           (append_assoc list before.removals (entry ∷ [])) stand;
     }
   where
     entry : Entry
-    entry = swept_entry 0 last_moment (swept.Removed key) now'
+    entry = swept_entry 0 last_moment (swept.Removed key) new.faults
 
 pub Sweeps-look : (CanCount : ℕ → Type 0) (first most : ℕ) (list : List Entry)
-    (told told' : Option (List ℕ → Option Item)) (now now' : ℕ) (cookies cookies' : Counter)
-    (removed : ℕ) (s : Swept)
-    → (before : Removes CanCount first list told now cookies removed)
+    (old new : DeskState) (removed : ℕ) (s : Swept)
+    → (before : Removes CanCount first list old removed)
     → DeskStandsFor CanCount first nothing 0 ((list ++ before.removals)
-    ++ swept_entry 0 last_moment s now' ∷ []) told' now' cookies'
-    → IsUnmoved s → (s ≡ swept.Nothing → TellsDue told' last_moment None) → removed < most
-    → Sweeps CanCount first most list told' now' cookies' removed
-Sweeps-look CanCount first most list told told' now now' cookies cookies' removed s before stand
-    unmoved none left = record {
+    ++ swept_entry 0 last_moment s new.faults ∷ []) new
+    → IsUnmoved s → (s ≡ swept.Nothing → TellsDue new.told last_moment None) → removed < most
+    → Sweeps CanCount first most list new removed
+Sweeps-look CanCount first most list old new removed s before stand unmoved none left = record {
       removals = before.removals;
       looks = entry ∷ [];
       expired = before.expired;
       counted = before.counted;
       few = let counted = before.counted in omega (arith, counted, left);
       desk = stand;
-      ends = inr (look_ends told' s now' unmoved none);
+      ends = inr (look_ends new.told s new.faults unmoved none);
     }
   where
     entry : Entry
-    entry = swept_entry 0 last_moment s now'
+    entry = swept_entry 0 last_moment s new.faults
 
 pub Sweeps-all : (CanCount : ℕ → Type 0) (first most : ℕ) (list : List Entry)
-    (told : Option (List ℕ → Option Item)) (now : ℕ) (cookies : Counter) (removed : ℕ)
-    → (before : Removes CanCount first list told now cookies removed) → removed ≡ most
-    → Sweeps CanCount first most list told now cookies removed
-Sweeps-all CanCount first most list told now cookies removed before all = record {
+    (state : DeskState) (removed : ℕ)
+    → (before : Removes CanCount first list state removed) → removed ≡ most
+    → Sweeps CanCount first most list state removed
+Sweeps-all CanCount first most list state removed before all = record {
   removals = before.removals;
   looks = [];
   expired = before.expired;
   counted = before.counted;
   few = let counted = before.counted in omega (arith, counted, all);
-  desk = subst (λ (l : List Entry). DeskStandsFor CanCount first nothing 0 l told now cookies)
+  desk = subst (λ (l : List Entry). DeskStandsFor CanCount first nothing 0 l state)
       (sym (append-nil (list ++ before.removals))) before.desk;
   ends = inl (refl, all);
 }

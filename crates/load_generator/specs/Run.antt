@@ -12,6 +12,7 @@ use Rattle.session_machine.specs.declared.entry.Deed.TheVariants.{Asked, Expired
 use Rattle.session_machine.specs.declared.item.Item.{Item}
 use Rattle.session_machine.specs.History.{nothing}
 use Rattle.shard_core.specs.Standing.{StandsFor}
+use Rattle.load_generator.specs.declared.load.Load.{Load}
 use Rattle.load_generator.specs.Load.{seeded, AreMade}
 
 -- ---- the sweep
@@ -61,29 +62,44 @@ load_text requests removals =
 
 -- ---- the run
 
--- The text was written on status 0, and a front of it on status 5; on status 6 nothing was written,
--- and requests may be missing.
-abbrev pub EndsLoad : ℕ → ℕ → Option (List ℕ) → Option (List ℕ) → Option (List ℕ → Option Item)
-    → List Entry → List Entry → List Entry → Type 0
-EndsLoad n status sink sink' told requests removals looks =
-    ((status ≡ 0) × (length requests ≡ n) × EndsSweep told looks
-    × Takes sink sink' (load_text requests removals))
-    ⊎ (((status ≡ 5) × (length requests ≡ n) × EndsSweep told looks
-    × TakesFront sink sink' (load_text requests removals))
-    ⊎ ((status ≡ 6) × (sink' ≡ sink)))
+-- What a load left: its status, what its sink has taken, and what its keeper tells and counts.
+pub record LoadEnd : Type 0 where
+  pub status : ℕ
+  pub sink : Option (List ℕ)
+  pub told : Option (List ℕ → Option Item)
+  pub faults : ℕ
 
--- A load of n requests: the requests by the generator's numbers, then items that expired, and a
--- last look, by one look more than requests at most. The keeper that is handed back has the items and the count after these entries.
--- (CanCount says which counts of faults the keeper's type can have; told and faults are what the
--- keeper tells and counts then.)
-pub record IsLoad (CanCount : ℕ → Type 0) (n seed : ℕ) (sink sink' : Option (List ℕ))
-    (told : Option (List ℕ → Option Item)) (faults status : ℕ) : Type 0 where
+-- The entries of a load: its requests, the removals of items that expired, and the looks that
+-- removed none.
+pub record LoadEntries : Type 0 where
   pub requests : List Entry
   pub removals : List Entry
   pub looks : List Entry
-  pub made : AreMade (seeded seed) 0 requests
+
+-- The text was written on status 0, and a front of it on status 5; on status 6 nothing was written,
+-- and requests may be missing. (The first number is that of the requests; the sink had taken so
+-- much before.)
+abbrev pub EndsLoad : ℕ → Option (List ℕ) → LoadEnd → LoadEntries → Type 0
+EndsLoad n sink end made =
+    ((end.status ≡ 0) × (length made.requests ≡ n) × EndsSweep end.told made.looks
+    × Takes sink end.sink (load_text made.requests made.removals))
+    ⊎ (((end.status ≡ 5) × (length made.requests ≡ n) × EndsSweep end.told made.looks
+    × TakesFront sink end.sink (load_text made.requests made.removals))
+    ⊎ ((end.status ≡ 6) × (end.sink ≡ sink)))
+
+-- A load: the requests by the generator's numbers, then items that expired, and a last look, by
+-- one look more than requests at most. The keeper that is handed back has the items and the count
+-- after these entries. (CanCount says which counts of faults the keeper's type can have; the sink
+-- had taken so much before.)
+pub record IsLoad (CanCount : ℕ → Type 0) (load : Load) (sink : Option (List ℕ)) (end : LoadEnd)
+    : Type 0 where
+  pub requests : List Entry
+  pub removals : List Entry
+  pub looks : List Entry
+  pub made : AreMade (seeded load.seed) 0 requests
   pub removed : AllByRecursion IsRemoval removals
-  pub few : length removals + length looks ≤ n + 1
-  pub stands : StandsFor nothing 0 (requests ++ removals ++ looks) told faults
+  pub few : length removals + length looks ≤ load.requests + 1
+  pub stands : StandsFor nothing 0 (requests ++ removals ++ looks) end.told end.faults
   pub counts : AllByRecursion (λ e. CanCount e.faults) (requests ++ removals ++ looks)
-  pub ends : EndsLoad n status sink sink' told requests removals looks
+  pub ends : EndsLoad load.requests sink end
+      (record { requests = requests; removals = removals; looks = looks })

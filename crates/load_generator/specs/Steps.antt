@@ -1,38 +1,34 @@
 -- A load under way.
 use Rattle.std.specs.Prelude.{◌≡◌, ◌⊎◌, ℕ, ◌+◌, ◌≤◌, List, [], ◌++◌, length, Option}
 use Rattle.std.specs.List.{AllByRecursion}
-use Rattle.cookie_source.specs.Counting.{Counter}
-use Rattle.desk.specs.Standing.{DeskStandsFor}
+use Rattle.desk.specs.Standing.{DeskState, DeskStandsFor}
 use Rattle.session_machine.specs.declared.entry.Entry.{Entry}
-use Rattle.session_machine.specs.declared.item.Item.{Item}
 use Rattle.session_machine.specs.History.{nothing}
 use Rattle.load_generator.specs.Load.{AreMade, seeded}
 use Rattle.load_generator.specs.Run.{IsRemoval, EndsSweep}
 
 -- The desk stands for these requests of the load.
-pub record HasAsked (CanCount : ℕ → Type 0) (seed : ℕ) (requests : List Entry)
-    (told : Option (List ℕ → Option Item)) (now : ℕ) (cookies : Counter) : Type 0 where
+pub record HasAsked (CanCount : ℕ → Type 0) (seed : ℕ) (requests : List Entry) (state : DeskState)
+    : Type 0 where
   pub made : AreMade (seeded seed) 0 requests
-  pub desk : DeskStandsFor CanCount 1 nothing 0 requests told now cookies
+  pub desk : DeskStandsFor CanCount 1 nothing 0 requests state
 
 -- So many items were removed behind a history, and then a look removed none, or all the looks that
 -- may be made removed one.
-pub record Sweeps (CanCount : ℕ → Type 0) (first most : ℕ) (list : List Entry)
-    (told : Option (List ℕ → Option Item)) (now : ℕ) (cookies : Counter) (removed : ℕ) : Type
-    0 where
+pub record Sweeps (CanCount : ℕ → Type 0) (first most : ℕ) (list : List Entry) (state : DeskState)
+    (removed : ℕ) : Type 0 where
   pub removals : List Entry
   pub looks : List Entry
   pub expired : AllByRecursion IsRemoval removals
   pub counted : length removals ≡ removed
   pub few : length removals + length looks ≤ most
-  pub desk : DeskStandsFor CanCount first nothing 0 (list ++ removals ++ looks) told now cookies
-  pub ends : ((looks ≡ []) × (removed ≡ most)) ⊎ EndsSweep told looks
+  pub desk : DeskStandsFor CanCount first nothing 0 (list ++ removals ++ looks) state
+  pub ends : ((looks ≡ []) × (removed ≡ most)) ⊎ EndsSweep state.told looks
 
 -- so many items were removed behind a history
-pub record Removes (CanCount : ℕ → Type 0) (first : ℕ) (list : List Entry)
-    (told : Option (List ℕ → Option Item)) (now : ℕ) (cookies : Counter) (removed : ℕ) : Type
-    0 where
+pub record Removes (CanCount : ℕ → Type 0) (first : ℕ) (list : List Entry) (state : DeskState)
+    (removed : ℕ) : Type 0 where
   pub removals : List Entry
   pub expired : AllByRecursion IsRemoval removals
   pub counted : length removals ≡ removed
-  pub desk : DeskStandsFor CanCount first nothing 0 (list ++ removals) told now cookies
+  pub desk : DeskStandsFor CanCount first nothing 0 (list ++ removals) state

@@ -1,6 +1,6 @@
 //! The sweep at the end of a load.
 ghost use Rattle.std.specs.Prelude.{◌≡◌, ◌<◌, ◌^◌, ℕ, List};
-ghost use Rattle.desk.specs.Standing.{DeskStandsFor};
+ghost use Rattle.desk.specs.Standing.{DeskStandsFor, state_of};
 ghost use Rattle.session_machine.specs.declared.entry.Entry.{Entry};
 ghost use Rattle.session_machine.specs.History.{nothing};
 ghost use Rattle.load_generator.specs.Steps.{Sweeps};
@@ -15,10 +15,8 @@ use shard_core::Swept;
 pub fn sweep<K: Keeper>(desk: &mut Desk<K>, most: u64) -> u64
     requires { 0 < desk.old.cookies.next }
     ensures sweeps { (first : ℕ) (list : List Entry)
-        → DeskStandsFor K.can_count first nothing 0 list (K.told desk.old.keeper)
-        (K.count desk.old.keeper) desk.old.cookies
-        → Sweeps K.can_count first most list (K.told desk.new.keeper) (K.count desk.new.keeper)
-        desk.new.cookies result }
+        → DeskStandsFor K.can_count first nothing 0 list (state_of K.told K.count desk.old)
+        → Sweeps K.can_count first most list (state_of K.told K.count desk.new) result }
     ensures floor { K.floor desk.new.keeper ≡ K.floor desk.old.keeper }
 {
     let mut removed = 0;

@@ -19,7 +19,8 @@ use Rattle.visit_core.specs.Stages.{HasPast}
 use Rattle.visit_core.specs.Terms.{Terms}
 use Rattle.page_script.specs.declared.script_page.ScriptPage.{ScriptPage}
 use Rattle.page_script.specs.World.{Page, Turn, event_of, Performs, turn_words, run_words, with_events, turns_of, is_heard}
-use Rattle.page_script.specs.Standing.{DeskState, DeskStands, turn_at, PageStands, EachSteps}
+use Rattle.desk.specs.Standing.{DeskState}
+use Rattle.page_script.specs.Standing.{DeskStands, turn_at, PageStands, EachSteps}
 
 -- ---- results
 

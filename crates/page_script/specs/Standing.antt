@@ -9,7 +9,7 @@ use Rattle.asp_messages.specs.Fields.{most_cookie}
 use Rattle.cookie_source.specs.Counting.{Counter}
 use Rattle.session_machine.specs.declared.item.Item.{Item}
 use Rattle.session_machine.specs.History.{nothing}
-use Rattle.desk.specs.Standing.{DeskOf, DeskStandsFor}
+use Rattle.desk.specs.Standing.{DeskState, DeskStandsFor, state_of}
 use Rattle.visit_core.specs.Rule.{Event, act_of, has_ended}
 use Rattle.visit_core.specs.Stages.{HasPast}
 use Rattle.page_script.specs.declared.line.Line.{Line}
@@ -20,26 +20,11 @@ use Rattle.page_script.specs.World.{Page, Turn, World, history, event_of, drawn_
 
 -- ---- the desk
 
--- What a keeper tells, how many faults it has counted, and the cookies that are left.
-pub record DeskState : Type 0 where
-  pub told : Option (List ℕ → Option Item)
-  pub faults : ℕ
-  pub cookies : Counter
-
 -- The desk stands for the history of the turns, with the cookies from 1 to the last there is.
 -- (CanCount says which counts of faults a keeper of this type can have.)
 pub record DeskStands (CanCount : ℕ → Type 0) (desk : DeskState) (turns : List Turn) : Type 0 where
-  pub stands : DeskStandsFor CanCount 1 nothing 0 (history turns) desk.told desk.faults desk.cookies
+  pub stands : DeskStandsFor CanCount 1 nothing 0 (history turns) desk
   pub last : desk.cookies.last ≡ most_cookie
-
--- the state of a desk, whose keeper tells and counts so
-abbrev pub state_of : {K : Type 0} → (K → Option (List ℕ → Option Item)) → (K → ℕ) → DeskOf K
-    → DeskState
-state_of told count desk = record {
-  told = told desk.keeper;
-  faults = count desk.keeper;
-  cookies = desk.cookies;
-}
 
 -- the turn of a page that sends this request behind other turns, and is answered so
 abbrev pub turn_at : ℕ → ℕ → Request → List Turn → Reply → ℕ → Turn

@@ -33,7 +33,8 @@ impl ScriptPage {
     ghost use Rattle.visit_core.specs.Terms.{LimitsFit};
     ghost use Rattle.page_script.specs.Lines.{PageFits};
     ghost use Rattle.page_script.specs.World.{Page, Turn, new_page, turns_of, step_line, with_events};
-    ghost use Rattle.page_script.specs.Standing.{state_of, PageStands, EachSteps, EachMayStep};
+    ghost use Rattle.desk.specs.Standing.{state_of};
+    ghost use Rattle.page_script.specs.Standing.{PageStands, EachSteps, EachMayStep};
 
     /// A page whose visit has not begun.
     pub fn new(limits: Limits, line: PageLine) -> ScriptPage

@@ -48,8 +48,12 @@ module _ {S K : Type 0} (G : Ghosts K) (seen : Seen S K) where
       × pipe.IsRun G.can_count run seen.flow
       (G.told seen.result.keeper) (G.count seen.result.keeper) end
   Does (commands.Load load) = (seen.source' ≡ seen.source)
-      × IsLoad G.can_count load.requests load.seed seen.flow.sink seen.flow.sink'
-      (G.told seen.result.keeper) (G.count seen.result.keeper) seen.result.status
+      × IsLoad G.can_count load seen.flow.sink (record {
+        status = seen.result.status;
+        sink = seen.flow.sink';
+        told = G.told seen.result.keeper;
+        faults = G.count seen.result.keeper;
+      })
   Does commands.Replay = (seen.result.keeper ≡ seen.keeper)
       × ((end : replay.End) × (seen.result.status ≡ replay.status_number end)
       × replay.IsReplay (2 ^ 40) seen.flow.source seen.flow.source' seen.flow.sink

@@ -1,5 +1,6 @@
 use Rattle.std.proofs.Common.{Some, ap, subst, sym, ◌∙◌}
 use Rattle.std.proofs.lemmas.Map.Steps.{set_value_same}
+use Rattle.session_machine.specs.Machine.{Circumstances}
 use Rattle.journal_text.specs.Deeds.{Leaves}
 use Rattle.journal_text.proofs.ItemLemmas.{asked-item, asked-nothing, on_err, some-there}
 use Rattle.journal_text.proofs.asking.ask.Goals as goal
@@ -14,19 +15,27 @@ returns-in_err-why-clause-err c =
 pub returns-in-Item-clause-asked : goal.returns-in-Item-clause-asked
 returns-in-Item-clause-asked c =
     let new = c.ask_there.new.item in
-    asked-item c.args.items.now c.args.request c.in-Some.item.now new c.args.t c.args.drawn
-    c.args.rose c.args.reply c.in-Some.ensures.value (c.get_mut.follows.lender new)
+    let at : Circumstances = record {
+      moment = c.args.t;
+      drawn = c.args.drawn;
+      rose = c.args.rose;
+    } in
+    asked-item c.args.items.now c.args.request c.in-Some.item.now new at
+    c.args.reply c.in-Some.ensures.value (c.get_mut.follows.lender new)
     ((c.get_mut.follows.holds new).3 (some-there _ _ c.in-Some.ensures.value))
-    (subst (Leaves c.in-Some.item.now new c.args.t c.args.drawn c.args.rose c.args.request
-    c.args.reply) c.in-Item.is c.in_ok-why.ensures.left)
+    (subst (Leaves c.in-Some.item.now new c.args.request at c.args.reply) c.in-Item.is c.in_ok-why.ensures.left)
 
 pub returns-in-Nothing-clause-asked : goal.returns-in-Nothing-clause-asked
 returns-in-Nothing-clause-asked c =
     let new = c.ask_there.new.item in
-    asked-nothing c.args.items.now c.args.request c.in-Some.item.now new c.args.t c.args.drawn
-    c.args.rose c.args.reply c.in-Some.ensures.value (c.get_mut.follows.lender new)
+    let at : Circumstances = record {
+      moment = c.args.t;
+      drawn = c.args.drawn;
+      rose = c.args.rose;
+    } in
+    asked-nothing c.args.items.now c.args.request c.in-Some.item.now new at
+    c.args.reply c.in-Some.ensures.value (c.get_mut.follows.lender new)
     c.remove.new.self c.in-Nothing.key ((c.get_mut.follows.holds new).3
     (some-there _ _ c.in-Some.ensures.value))
-    (subst (Leaves c.in-Some.item.now new c.args.t c.args.drawn c.args.rose c.args.request
-    c.args.reply) c.in-Nothing.is c.in_ok-why.ensures.left)
+    (subst (Leaves c.in-Some.item.now new c.args.request at c.args.reply) c.in-Nothing.is c.in_ok-why.ensures.left)
     c.remove.ensures.updates

@@ -1,5 +1,6 @@
 use Rattle.std.proofs.Common.{◌≡◌, List, length}
 use Rattle.asp_messages.specs.Fields.{most_cookie}
+use Rattle.desk.specs.Standing.{state_of}
 use Rattle.session_machine.specs.declared.entry.Entry.{Entry}
 use Rattle.load_generator.specs.Counting.{CountsAre}
 use Rattle.load_generator.specs.Load.{seeded, generated}
@@ -9,7 +10,7 @@ use Rattle.load_generator.proofs.load.ask_all.Given as goal
 abbrev pub invariant-loop : goal.invariant-loop
 invariant-loop g l = record {
   asked : (list : List Entry) × HasAsked g.K.Keeper.can_count l.fn.load.seed list
-      (g.K.Keeper.told l.desk.keeper) (g.K.Keeper.count l.desk.keeper) l.desk.cookies
+      (state_of g.K.Keeper.told g.K.Keeper.count l.desk)
       × (length list ≡ l.counter) × (l.generator ≡ generated (seeded l.fn.load.seed) list)
       × CountsAre l.counts list;
   made : l.generator.made ≡ l.counter;

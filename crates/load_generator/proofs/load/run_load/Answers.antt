@@ -1,4 +1,5 @@
 use Rattle.std.proofs.Common.{sym, subst}
+use Rattle.desk.specs.Standing.{state_of}
 use Rattle.load_generator.specs.Run.{IsLoad}
 use Rattle.load_generator.proofs.EndLemmas.{unfinished, finished}
 use Rattle.load_generator.proofs.load.run_load.Goals as goal
@@ -6,31 +7,28 @@ use Rattle.load_generator.proofs.load.run_load.Goals as goal
 pub returns-in_default-clause-load : goal.returns-in_default-clause-load
 returns-in_default-clause-load g c =
     let asked = c.in_default.ensures.asked in
-    subst (λ k. IsLoad g.K.Keeper.can_count c.args.load.requests c.args.load.seed
-    (g.T.Sink.taken c.args.sink.now) (g.T.Sink.taken c.args.sink.now) (g.K.Keeper.told k)
-    (g.K.Keeper.count k) 6)
+    subst (λ k. IsLoad g.K.Keeper.can_count c.args.load (g.T.Sink.taken c.args.sink.now) (record {
+      status = 6;
+      sink = g.T.Sink.taken c.args.sink.now;
+      told = g.K.Keeper.told k;
+      faults = g.K.Keeper.count k;
+    }))
     (sym c.into_keeper.ensures)
-    (unfinished g.K.Keeper.can_count c.args.load.requests c.args.load.seed
-    (g.T.Sink.taken c.args.sink.now) (g.K.Keeper.told c.ask_all.new.desk.keeper)
-    (g.K.Keeper.count c.ask_all.new.desk.keeper)
-    c.ask_all.new.desk.cookies asked.0 asked.1)
+    (unfinished g.K.Keeper.can_count c.args.load (g.T.Sink.taken c.args.sink.now)
+    (state_of g.K.Keeper.told g.K.Keeper.count c.ask_all.new.desk) asked.0 asked.1)
 
 pub returns-clause-load : goal.returns-clause-load
 returns-clause-load g c =
     let asked = c.in-Ok.ensures.asked in
-    subst (λ k. IsLoad g.K.Keeper.can_count c.args.load.requests c.args.load.seed
-    (g.T.Sink.taken c.args.sink.now) (g.T.Sink.taken c.write_counts.new.sink)
-    (g.K.Keeper.told k) (g.K.Keeper.count k) c.write_counts.result)
+    subst (λ k. IsLoad g.K.Keeper.can_count c.args.load (g.T.Sink.taken c.args.sink.now) (record {
+      status = c.write_counts.result;
+      sink = g.T.Sink.taken c.write_counts.new.sink;
+      told = g.K.Keeper.told k;
+      faults = g.K.Keeper.count k;
+    }))
     (sym c.into_keeper-2.ensures)
-    (finished g.K.Keeper.can_count c.args.load.requests c.args.load.seed c.sweep-removed.result
-    c.write_counts.result (g.T.Sink.taken c.args.sink.now)
-    (g.T.Sink.taken c.write_counts.new.sink)
-    (g.K.Keeper.told c.sweep-removed.new.desk.keeper)
-    (g.K.Keeper.count c.sweep-removed.new.desk.keeper) c.sweep-removed.new.desk.cookies
-    c.in-Ok.counts asked.0 (
-      g.K.Keeper.told c.ask_all.new.desk.keeper,
-      g.K.Keeper.count c.ask_all.new.desk.keeper,
-      c.ask_all.new.desk.cookies,
-      asked.1,
-    ) asked.2.0 asked.2.1
+    (finished g.K.Keeper.can_count c.args.load c.sweep-removed.result c.write_counts.result
+    (g.T.Sink.taken c.args.sink.now) (g.T.Sink.taken c.write_counts.new.sink)
+    (state_of g.K.Keeper.told g.K.Keeper.count c.sweep-removed.new.desk) c.in-Ok.counts asked.0
+    (state_of g.K.Keeper.told g.K.Keeper.count c.ask_all.new.desk, asked.1) asked.2.0 asked.2.1
     (c.sweep-removed.ensures.sweeps 1 asked.0 asked.1.desk) c.write_counts.ensures.writes)

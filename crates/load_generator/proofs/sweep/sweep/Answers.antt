@@ -1,6 +1,6 @@
 use Rattle.std.proofs.Common.{◌++◌, ◌∷◌, [], subst, refl, ◌∙◌, arith}
 use Rattle.asp_base.specs.Moments.{last_moment}
-use Rattle.desk.specs.Standing.{DeskStandsFor}
+use Rattle.desk.specs.Standing.{DeskStandsFor, state_of}
 use Rattle.shard_core.specs.Sweeping.{swept_entry}
 use Rattle.session_machine.specs.History.{nothing}
 use Rattle.load_generator.proofs.SweepLemmas.{not_removed, Removes-none, Removes-push, Sweeps-look, Sweeps-all}
@@ -9,8 +9,7 @@ use Rattle.load_generator.proofs.sweep.sweep.Goals as goal
 pub loop-removed-init : goal.loop-removed-init
 loop-removed-init g c = record {
   removes = λ first list stand. Removes-none g.K.Keeper.can_count first list
-      (g.K.Keeper.told c.args.desk.now.keeper) (g.K.Keeper.count c.args.desk.now.keeper)
-      c.args.desk.now.cookies stand;
+      (state_of g.K.Keeper.told g.K.Keeper.count c.args.desk.now) stand;
   within = omega arith;
   floor = refl;
 }
@@ -21,16 +20,13 @@ loop-removed-preserved g c = record {
       let before = c.loop-removed.invariant.removes first list stand in
       let after = c.sweep_one.ensures.stands first 0 nothing 0 (list ++ before.removals)
       (omega arith) before.desk in
-      Removes-push g.K.Keeper.can_count first list (g.K.Keeper.told c.loop-removed.desk.keeper)
-      (g.K.Keeper.told c.sweep_one.new.self.keeper)
-      (g.K.Keeper.count c.loop-removed.desk.keeper) (g.K.Keeper.count c.sweep_one.new.self.keeper)
-      c.loop-removed.desk.cookies c.sweep_one.new.self.cookies
+      let new = state_of g.K.Keeper.told g.K.Keeper.count c.sweep_one.new.self in
+      Removes-push g.K.Keeper.can_count first list
+      (state_of g.K.Keeper.told g.K.Keeper.count c.loop-removed.desk) new
       c.loop-removed.removed c.in-Removed.key before
       (subst (λ s. DeskStandsFor g.K.Keeper.can_count first nothing 0
-      (list ++ before.removals ++ swept_entry 0 last_moment s
-      (g.K.Keeper.count c.sweep_one.new.self.keeper) ∷ [])
-      (g.K.Keeper.told c.sweep_one.new.self.keeper) (g.K.Keeper.count c.sweep_one.new.self.keeper)
-      c.sweep_one.new.self.cookies) c.in-Removed.is after);
+      (list ++ before.removals ++ swept_entry 0 last_moment s new.faults ∷ []) new)
+      c.in-Removed.is after);
   within = omega (arith, c.loop-removed-test.true);
   floor = c.sweep_one.ensures.floor ∙ c.loop-removed.invariant.floor;
 }
@@ -40,9 +36,8 @@ returns-in_default g c = record {
   sweeps = λ first list stand.
       let before = c.loop-removed.invariant.removes first list stand in
       Sweeps-look g.K.Keeper.can_count first c.args.most list
-      (g.K.Keeper.told c.loop-removed.desk.keeper) (g.K.Keeper.told c.sweep_one.new.self.keeper)
-      (g.K.Keeper.count c.loop-removed.desk.keeper) (g.K.Keeper.count c.sweep_one.new.self.keeper)
-      c.loop-removed.desk.cookies c.sweep_one.new.self.cookies
+      (state_of g.K.Keeper.told g.K.Keeper.count c.loop-removed.desk)
+      (state_of g.K.Keeper.told g.K.Keeper.count c.sweep_one.new.self)
       c.loop-removed.removed c.sweep_one.result before
       (c.sweep_one.ensures.stands first 0 nothing 0 (list ++ before.removals) (omega arith)
       before.desk) (not_removed c.sweep_one.result c.in_default.not-Removed)
@@ -53,7 +48,6 @@ returns-in_default g c = record {
 pub returns-clause-sweeps : goal.returns-clause-sweeps
 returns-clause-sweeps g c = λ first list stand.
     Sweeps-all g.K.Keeper.can_count first c.args.most list
-    (g.K.Keeper.told c.loop-removed.desk.keeper) (g.K.Keeper.count c.loop-removed.desk.keeper)
-    c.loop-removed.desk.cookies
+    (state_of g.K.Keeper.told g.K.Keeper.count c.loop-removed.desk)
     c.loop-removed.removed (c.loop-removed.invariant.removes first list stand)
     (omega (arith, c.loop-removed.invariant.within, c.loop-removed-test.false))

@@ -1,5 +1,5 @@
 use Rattle.std.proofs.Common.{◌≡◌, ◌≤◌, ◌-◌, ℕ, List}
-use Rattle.desk.specs.Standing.{DeskStandsFor}
+use Rattle.desk.specs.Standing.{DeskStandsFor, state_of}
 use Rattle.session_machine.specs.declared.entry.Entry.{Entry}
 use Rattle.session_machine.specs.History.{nothing}
 use Rattle.load_generator.specs.Steps.{Removes}
@@ -8,10 +8,10 @@ use Rattle.load_generator.proofs.sweep.sweep.Given as goal
 abbrev pub invariant-loop-removed : goal.invariant-loop-removed
 invariant-loop-removed g l = record {
   removes : (first : ℕ) (list : List Entry)
-      → DeskStandsFor g.K.Keeper.can_count first nothing 0 list (g.K.Keeper.told l.fn.desk.keeper)
-      (g.K.Keeper.count l.fn.desk.keeper) l.fn.desk.cookies
-      → Removes g.K.Keeper.can_count first list (g.K.Keeper.told l.desk.keeper)
-      (g.K.Keeper.count l.desk.keeper) l.desk.cookies l.removed;
+      → DeskStandsFor g.K.Keeper.can_count first nothing 0 list
+      (state_of g.K.Keeper.told g.K.Keeper.count l.fn.desk)
+      → Removes g.K.Keeper.can_count first list
+      (state_of g.K.Keeper.told g.K.Keeper.count l.desk) l.removed;
   within : l.removed ≤ l.fn.most;
   floor : g.K.Keeper.floor l.desk.keeper ≡ g.K.Keeper.floor l.fn.desk.keeper;
 }
