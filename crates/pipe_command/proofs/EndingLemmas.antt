@@ -1,5 +1,6 @@
 -- A run of a responder from its beginning to its end.
 use Rattle.std.proofs.Common.{◌≡◌, ℕ, ◌+◌, ◌<◌, ◌≤◌, Bool, true, false, not, List, [], ◌∷◌, ◌++◌, length, take, Option, Some, None, refl, sym, ap, ◌∙◌, arith, subst, inl, inr, append-nil, length-append}
+use Rattle.std.specs.List.{AllByRecursion}
 use Rattle.std.specs.Prelude.{◌⊎◌, ◌≢◌, All, IsTrue}
 use Rattle.std.proofs.Math.Seq.{take-append-add}
 use Rattle.std.proofs.lemmas.List.Elements.{All-from_recursion}
@@ -16,6 +17,7 @@ use Rattle.asp_messages.specs.Stream.{IsHopeless}
 use Rattle.asp_messages.proofs.SentRequestLemmas.{request_spelled}
 use Rattle.keeper.specs.declared.keeping.Keeper as keepers
 use Rattle.lock_laws.proofs.LawLemmas.{LocksHold-of_legal}
+use Rattle.lock_laws.proofs.FaultLemmas.{faults-counted, no-counts}
 use Rattle.message_framing.specs.Held.{Held, empty_reader}
 use Rattle.percent_encoding.proofs.PercentLemmas.{IsByte}
 use Rattle.session_machine.specs.declared.entry.Entry.{Entry}
@@ -35,7 +37,7 @@ use Rattle.pipe_command.specs.Giving.{given_body, given_head}
 use Rattle.pipe_command.specs.PlainRun.{MayLack, closing, output_of, written_as}
 use Rattle.pipe_command.specs.Progress.{Progress}
 use Rattle.pipe_command.specs.Responding.{Breaks, Closes, Gave, HasAnswered, Lacks, Waits, Went, owing, state_of, unbegun}
-use Rattle.pipe_command.specs.Run.{End, EndsAs, IsRun, PipeFits, Reached, StopsBroken, TellsLocks}
+use Rattle.pipe_command.specs.Run.{End, EndsAs, IsRun, PipeFits, Reached, StopsBroken, NeverFails, TellsLocks}
 use Rattle.pipe_command.proofs.ResponderLemmas.{due_of, hopeless_none, rest_waits}
 
 -- ---- a beginning
@@ -92,6 +94,14 @@ locks_of : (told : Option (List ℕ → Option Item)) (faults : ℕ) (list : Lis
     → StandsFor nothing 0 list told faults → TellsLocks told list
 locks_of None faults list stands = tt
 locks_of (Some items) faults list stands = LocksHold-of_legal nothing 0 list stands.told_is.0
+
+-- over a keeper that never counts a fault none is answered
+no_faults_of : (CanCount : ℕ → Type 0) (told : Option (List ℕ → Option Item)) (faults : ℕ)
+    (list : List Entry) → StandsFor nothing 0 list told faults
+    → AllByRecursion (λ e. CanCount e.faults) list → NeverFails CanCount told list
+no_faults_of CanCount None faults list stands counts = tt
+no_faults_of CanCount (Some items) faults list stands counts =
+    λ never. faults-counted nothing list stands.told_is.0 (no-counts CanCount list counts never)
 
 -- a rest that is hopeless is not empty: a read of `/` could follow it
 hopeless_after : (r : Request) → RequestFits r → All IsByte r.key → (rest : List ℕ)
@@ -194,6 +204,8 @@ module _ {K : Type 0} (G : keepers.Ghosts K) where
       counts = run.desk.counts;
       stands = run.desk.stands;
       locks = locks_of (G.told now.desk.keeper) (G.count now.desk.keeper) run.list run.desk.stands;
+      no_faults = no_faults_of G.can_count (G.told now.desk.keeper) (G.count now.desk.keeper)
+          run.list run.desk.stands run.desk.counts;
       ends = subst (λ d. EndsAs end (reached rest (length ended.taken) d)) run.due_is how;
     }
       where

@@ -5,7 +5,8 @@ use Rattle.asp_base.specs.Outside.{Gives, IsAtEnd, Takes, TakesFront}
 use Rattle.asp_messages.specs.declared.request.Message.{Message}
 use Rattle.asp_messages.specs.RequestSpelling.{SpellsRequest}
 use Rattle.asp_messages.specs.Stream.{Spelled, HasNoMessage, IsHopeless}
-use Rattle.lock_laws.specs.Laws.{LocksHold}
+use Rattle.lock_laws.specs.Laws.{LocksHold, NeverFaults}
+use Rattle.keeper.specs.Items.{NeverCounts}
 use Rattle.session_machine.specs.declared.entry.Entry.{Entry}
 use Rattle.session_machine.specs.declared.item.Item.{Item}
 use Rattle.session_machine.specs.History.{nothing}
@@ -86,6 +87,11 @@ abbrev pub TellsLocks : Option (List ℕ → Option Item) → List Entry → Typ
 TellsLocks None list = ⊤
 TellsLocks (Some items) list = LocksHold nothing 0 list
 
+-- over a keeper that tells its items, and never counts a fault, none is answered
+abbrev pub NeverFails : (ℕ → Type 0) → Option (List ℕ → Option Item) → List Entry → Type 0
+NeverFails CanCount None list = ⊤
+NeverFails CanCount (Some items) list = NeverCounts CanCount → NeverFaults list
+
 -- A run: the bytes taken, at most the most, are messages and a rest; the entries are a plain run of
 -- the messages; the keeper that is handed back has the items and the count after them; locks hold
 -- what they give; and the replies, or the journal, were written as the ending says. (CanCount says
@@ -104,6 +110,7 @@ pub record IsRun (CanCount : ℕ → Type 0) (pipe : Pipe) (f : Flow)
   pub counts : AllByRecursion (λ e. CanCount e.faults) list
   pub stands : StandsFor nothing 0 list told faults
   pub locks : TellsLocks told list
+  pub no_faults : NeverFails CanCount told list
   pub ends : EndsAs end (record {
     output = output_of pipe.journal;
     flow = f;
