@@ -71,7 +71,7 @@ ghosts = record {
   went = Went;
   waits = λ more now. Waits now.reader;
   gave = Gave;
-  breaks = Breaks;
+  breaks = λ more verdict first now. Breaks verdict;
   closes = Closes;
   lacks = Lacks;
   work = λ now. length now.reader.held;
@@ -171,7 +171,7 @@ module _ (first now : Replayer) (input : List ℕ) where
   found_of : (verdict : Verdict) (whole last : List ℕ)
       → Closes verdict first now input whole last
       ⊎ ((front : List ℕ) × (behind : List ℕ) × (more : Bool) × (input ≡ front ++ behind)
-      × Breaks more verdict first now front whole last)
+      × Breaks verdict front whole last)
       → (line : List ℕ) × Finds verdict input line
   found_of verdict whole last (inl closes) = (last, closes.1)
   found_of verdicts.NotAJournal whole last (inr (front, behind, more, is, breaks)) = (

@@ -44,12 +44,12 @@ abbrev pub Gave : Replayer → Replayer → List ℕ → List ℕ → List ℕ �
 Gave first now bytes whole last = last ≡ []
 
 -- the bytes stop being a journal, whatever follows them
-abbrev pub Breaks : Bool → Verdict → Replayer → Replayer → List ℕ → List ℕ → List ℕ → Type 0
-Breaks more verdicts.NotAJournal first now bytes whole last =
+abbrev pub Breaks : Verdict → List ℕ → List ℕ → List ℕ → Type 0
+Breaks verdicts.NotAJournal bytes whole last =
     (whole ≡ []) × ((offset : ℕ) × ((behind : List ℕ) → StopsAt (bytes ++ behind) offset)
     × (last ≡ stop_line offset))
-Breaks more verdicts.Legal first now bytes whole last = ⊥
-Breaks more verdicts.Illegal first now bytes whole last = ⊥
+Breaks verdicts.Legal bytes whole last = ⊥
+Breaks verdicts.Illegal bytes whole last = ⊥
 
 -- what is found of the bytes where none follow
 abbrev pub Finds : Verdict → List ℕ → List ℕ → Type 0

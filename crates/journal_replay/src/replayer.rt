@@ -67,7 +67,7 @@ impl Consumer for Replayer {
 
     ghost gave = { Gave };
 
-    ghost breaks = { Breaks };
+    ghost breaks = { λ more verdict first now. Breaks verdict };
 
     ghost closes = { Closes };
 

@@ -115,7 +115,7 @@ module _ (turns : List Turn) (number : ℕ) (page : Page) (cookie : ℕ)
     same_reply : place.turn.reply ≡ Locked cookie met.age
     same_reply = cc place.answer
 
-    told : ToldLock
+    abbrev told : ToldLock
     told = record { cookie = cookie; seconds = met.age }
 
     in_force : IsInForceFor nothing 0 page.terms.key told (history place.before) place.turn.moment

@@ -18,7 +18,7 @@ returns-clause-replay g c = (
 pub returns-clause-judged : goal.returns-clause-judged
 returns-clause-judged g c = λ place list tells read write.
     subst (λ (n : ℕ). IsStatusOf n place list) (sym c.status.ensures)
-    (judged-complete c.args.most _ c.run.new.consumer
+    (judged-complete c.args.most c.new-replayer.result c.run.new.consumer
     (flow (g.S.Source.told c.args.source.now) (g.S.Source.told c.run.new.source)
     (g.T.Sink.taken c.args.sink.now) (g.T.Sink.taken c.run.new.sink))
     (g.S.Source.told c.args.source.now) c.run.result
@@ -27,7 +27,7 @@ returns-clause-judged g c = λ place list tells read write.
 pub returns-clause-refused : goal.returns-clause-refused
 returns-clause-refused g c = λ tells read write.
     subst (λ (n : ℕ). (n ≡ 3) ⊎ (n ≡ 6)) (sym c.status.ensures)
-    (refused-complete c.args.most _ c.run.new.consumer
+    (refused-complete c.args.most c.new-replayer.result c.run.new.consumer
     (flow (g.S.Source.told c.args.source.now) (g.S.Source.told c.run.new.source)
     (g.T.Sink.taken c.args.sink.now) (g.T.Sink.taken c.run.new.sink))
     (g.S.Source.told c.args.source.now) c.run.result
