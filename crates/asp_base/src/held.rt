@@ -30,15 +30,16 @@ impl Model for Held {
 }
 
 /// Drops the bytes before `start`, where there are any. It takes no memory, and costs the bytes
-/// from
-/// `start` on.
+/// from `start` on.
 fn compact(bytes: &mut Vec<u8>, start: &mut usize)
     requires { start.old ≤ length bytes.old.items }
     ensures start { start.new ≡ 0 }
     ensures bytes { bytes.new.items ≡ drop start.old bytes.old.items }
 {
     if *start > 0 {
-        bytes.drain(..*start);
+        let left = bytes.len() - *start;
+        bytes.copy_within(*start.., 0);
+        bytes.truncate(left);
         *start = 0;
     }
 }

@@ -1,25 +1,26 @@
 -- What a reader may answer, by how far it has come.
-use Rattle.std.proofs.Common.{◌≡◌, ℕ, ◌*◌, Bool, true, false, IsTrue, ◌<◌, ◌≤◌, List, ◌++◌, length, take, min, Some, refl, sym, ap, ◌∙◌, subst, arith, append_assoc, length-append}
-use Rattle.std.proofs.lemmas.List.{take-append-le}
+use Rattle.std.proofs.Common.{◌≡◌, ℕ, ◌*◌, Bool, true, false, IsTrue, ◌<◌, ◌≤◌, List, ◌++◌, length, take, min, Some, refl, sym, ap, ◌∙◌, subst, arith, append_assoc, length-append, length-drop, drop, drop-drop, take-append-drop, ◌+◌}
+use Rattle.std.proofs.lemmas.List.{take-append-le, length-take-le}
 use Rattle.asp_messages.specs.Head.{most_head}
 use Rattle.asp_messages.specs.Stream.{HasNoMessage, IsHopeless}
 use Rattle.message_framing.specs.declared.head_end.Phase.{Phase}
 use Rattle.message_framing.specs.declared.head_end.Phase.TheVariants.{Blank}
+use Rattle.message_framing.specs.declared.kind.Begun.{Begun}
 use Rattle.message_framing.specs.declared.reader.Found.{Found}
 use Rattle.message_framing.specs.declared.reader.Found.TheVariants as founds
 use Rattle.message_framing.specs.declared.reader.State.{State}
 use Rattle.message_framing.specs.declared.reader.State.TheVariants as states
-use Rattle.message_framing.specs.Framed.{Framed, IsRead, IfFound, Stands, is_broken_state, spent_of, text_of}
+use Rattle.message_framing.specs.Framed.{Framed, Gives, IsRead, IfFound, Stands, is_broken_state, spent_of}
 use Rattle.message_framing.specs.HeadEnd.{seen, EndsHead}
 use Rattle.message_framing.specs.Looks.{IsOpen}
 use Rattle.message_framing.proofs.EndLemmas.{none-seen, long-seen, ends-same}
 
-module _ {P M : Type 0} (IsHead : List ℕ → P → Type 0) (announced : P → ℕ)
-    (Means : List ℕ → List ℕ → M → Type 0)
+module _ {M : Type 0} (IsHead : List ℕ → ℕ → Type 0) (Means : List ℕ → List ℕ → M → Type 0)
+    (filled : M → List ℕ → M)
     (ends : (text body : List ℕ) (m : M) → Means text body m
     → EndsHead text × (length text ≤ most_head))
-    (fits : (text body : List ℕ) (parts : P) (m : M) → IsHead text parts → Means text body m
-    → length body ≡ announced parts)
+    (fits : (text body : List ℕ) (len : ℕ) (m : M) → IsHead text len → Means text body m
+    → length body ≡ len)
   where
     -- a framed message at the front, in three parts
     in_three : (bytes front back : List ℕ) (m : M) (f : Framed Means front m)
@@ -48,14 +49,24 @@ module _ {P M : Type 0} (IsHead : List ℕ → P → Type 0) (announced : P → 
         omega (arith, head.1)
 
     -- the head was read, and its body is not whole
-    pub short-none : (text held : List ℕ) (parts : P) → IsRead IsHead text parts
-        → length held < announced parts → HasNoMessage (Framed Means) (text ++ held)
-    short-none text held parts read short front back m is f =
-        let same = ends-same text f.text held (f.body ++ back) read.ends
-        (ends f.text f.body m f.means).0 (in_three (text ++ held) front back m f is) in
-        let len : length f.body ≡ announced parts =
-        fits f.text f.body parts m (subst (λ t. IsHead t parts) same.0 read.is_head) f.means in
-        omega (arith, ap length same.1, length-append f.body back)
+    pub short-none : (held : List ℕ) (n : ℕ) (begun : Begun M)
+        → IsRead IsHead Means filled held n begun → length held < n + begun.body_len
+        → HasNoMessage (Framed Means) held
+    short-none held n begun read short front back m is f =
+        let parted : take n held ++ drop n held ≡ f.text ++ (f.body ++ back) =
+        take-append-drop n held ∙ in_three held front back m f is in
+        let same = ends-same (take n held) f.text (drop n held) (f.body ++ back) read.ended.ends
+        (ends f.text f.body m f.means).0 parted in
+        let len : length f.body ≡ begun.body_len =
+        fits f.text f.body begun.body_len m (subst (λ t. IsHead t begun.body_len) same.0
+        read.is_head) f.means in
+        omega (
+          arith,
+          read.ended.within,
+          ap length same.1,
+          length-append f.body back,
+          length-drop n held,
+        )
 
     -- no message begins with the head
     pub unread-hopeless : (text held : List ℕ) → EndsHead text
@@ -70,14 +81,45 @@ module _ {P M : Type 0} (IsHead : List ℕ → P → Type 0) (announced : P → 
 -- ---- states
 
 -- what was spent on a message that may still come
-pub stands-spent : {P : Type 0} (IsHead : List ℕ → P → Type 0) (state : State P) (held : List ℕ)
-    → Stands IsHead state held → is_broken_state state ≡ false
-    → spent_of state ≤ 2 * min (length (text_of state ++ held)) most_head
-stands-spent IsHead (states.Looking n phase) held so whole = omega (arith, so.within, so.short)
-stands-spent IsHead (states.Ended n) held so whole = omega (arith, so.within, so.short)
-stands-spent IsHead (states.Read text parts) held so whole =
-    omega (arith, length-append text.items held, so.short)
-stands-spent IsHead (states.Broken n) held so whole = cc
+pub stands-spent : {M : Type 0} (IsHead : List ℕ → ℕ → Type 0)
+    (Means : List ℕ → List ℕ → M → Type 0) (filled : M → List ℕ → M) (state : State M)
+    (held : List ℕ) → Stands IsHead Means filled state held → is_broken_state state ≡ false
+    → spent_of state ≤ 2 * min (length held) most_head
+stands-spent IsHead Means filled (states.Looking n phase) held so whole =
+    omega (arith, so.within, so.short)
+stands-spent IsHead Means filled (states.Ended n) held so whole =
+    omega (arith, so.within, so.short)
+stands-spent IsHead Means filled (states.Read n begun) held so whole =
+    omega (arith, so.ended.within, so.ended.short)
+stands-spent IsHead Means filled (states.Broken n) held so whole = cc
+
+-- the message that was begun is the one that the state has
+pub begun-same : {M : Type 0} (a b : ℕ) (x y : Begun M) → states.Read a x ≡ states.Read b y → x ≡ y
+begun-same a b x y same = cc
+
+-- a message was found
+pub gives : {M : Type 0} (IsHead : List ℕ → ℕ → Type 0) (Means : List ℕ → List ℕ → M → Type 0)
+    (filled : M → List ℕ → M) (held body left : List ℕ) (n : ℕ) (begun : Begun M) (m : M)
+    → IsRead IsHead Means filled held n begun → n + begun.body_len ≤ length held
+    → body ≡ take begun.body_len (drop n held) → left ≡ drop (n + begun.body_len) held
+    → m ≡ filled begun.message body → Gives Means (states.Read n begun) held left m
+gives IsHead Means filled held body left n begun m read come is rest filled_is =
+    let wanted = begun.body_len in
+    let room : wanted ≤ length (drop n held) = omega (arith, length-drop n held) in
+    let len : length body ≡ wanted = ap length is ∙ length-take-le wanted (drop n held) room in
+    let text : length (take n held) ≡ n = length-take-le n held read.ended.within in
+    let back : drop n held ≡ body ++ left = sym (take-append-drop wanted (drop n held))
+    ∙ ap (λ l. take wanted (drop n held) ++ l) (drop-drop wanted n held ∙ sym rest)
+    ∙ ap (λ l. l ++ left) (sym is) in
+    record {
+      text = take n held;
+      body = body;
+      means = subst (λ it. Means (take n held) body it) (sym filled_is) (read.means body len);
+      held = sym (take-append-drop n held) ∙ ap (λ l. take n held ++ l) back
+          ∙ sym (append_assoc (take n held) body left);
+      spent = ap (λ k. 2 * k) (sym text);
+      whole = refl;
+    }
 
 -- a fact of what was found
 pub if-found : {M : Type 0} (found : Found M) (P Q : M → Type 0) → IfFound found P

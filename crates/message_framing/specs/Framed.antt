@@ -1,13 +1,13 @@
 -- Messages as a head's text and a body, over what they mean.
-use Rattle.std.specs.Prelude.{◌≡◌, ℕ, ◌+◌, ◌*◌, ◌≤◌, List, [], ◌++◌, length, min, Bool, true, false, IsTrue, IsFalse, ⊤, ◌⊎◌}
+use Rattle.std.specs.Prelude.{◌≡◌, ℕ, ◌+◌, ◌*◌, ◌≤◌, List, [], ◌++◌, length, take, min, Bool, true, false, IsTrue, IsFalse, ⊤, ◌⊎◌}
 use Rattle.asp_messages.specs.Head.{most_head}
 use Rattle.asp_messages.specs.Stream.{HasNoMessage, IsHopeless}
+use Rattle.message_framing.specs.declared.kind.Begun.{Begun}
 use Rattle.message_framing.specs.declared.reader.Found.{Found}
 use Rattle.message_framing.specs.declared.reader.Found.TheVariants as founds
 use Rattle.message_framing.specs.declared.reader.State.{State}
 use Rattle.message_framing.specs.declared.reader.State.TheVariants as states
 use Rattle.message_framing.specs.Held.{Reading, waiting, broken, most_held}
-use Rattle.message_framing.specs.HeadEnd.{EndsHead}
 use Rattle.message_framing.specs.Looks.{IsOpen, IsEnded}
 
 -- The bytes are a head's text and a body, and together they mean a message.
@@ -34,72 +34,69 @@ UnlessFound founds.NoMemory P = P
 
 -- ---- the state of a reader
 
--- the text of the head that was read, which the bytes held follow
-abbrev pub text_of : {P : Type 0} → State P → List ℕ
-text_of (states.Looking n phase) = []
-text_of (states.Ended n) = []
-text_of (states.Read text parts) = text.items
-text_of (states.Broken n) = []
-
 -- how often a byte of the head was looked at
-abbrev pub spent_of : {P : Type 0} → State P → ℕ
+abbrev pub spent_of : {M : Type 0} → State M → ℕ
 spent_of (states.Looking n phase) = n
 spent_of (states.Ended n) = n
-spent_of (states.Read text parts) = 2 * length text.items
+spent_of (states.Read n begun) = 2 * n
 spent_of (states.Broken n) = n
 
-abbrev pub is_broken_state : {P : Type 0} → State P → Bool
+abbrev pub is_broken_state : {M : Type 0} → State M → Bool
 is_broken_state (states.Looking n phase) = false
 is_broken_state (states.Ended n) = false
-is_broken_state (states.Read text parts) = false
+is_broken_state (states.Read n begun) = false
 is_broken_state (states.Broken n) = true
 
 -- what callers see of a reader
-abbrev pub reading_of : {P : Type 0} → State P → List ℕ → Bool → Reading
+abbrev pub reading_of : {M : Type 0} → State M → List ℕ → Bool → Reading
 reading_of state held may_feed = record {
   bytes = record {
-    held = text_of state ++ held;
+    held = held;
     is_broken = is_broken_state state;
     may_feed = may_feed;
   };
   spent = spent_of state;
 }
 
--- The text is a head that ends with it.
-pub record IsRead {P : Type 0} (IsHead : List ℕ → P → Type 0) (text : List ℕ) (parts : P) : Type
-    0 where
-  pub is_head : IsHead text parts
-  pub ends : EndsHead text
-  pub short : length text ≤ most_head
+-- A head ends with the first n of the bytes, and was read: it begins this message.
+pub record IsRead {M : Type 0} (IsHead : List ℕ → ℕ → Type 0)
+    (Means : List ℕ → List ℕ → M → Type 0) (filled : M → List ℕ → M)
+    (bytes : List ℕ) (n : ℕ) (begun : Begun M) : Type 0 where
+  pub ended : IsEnded bytes n
+  pub is_head : IsHead (take n bytes) begun.body_len
+  pub means : (body : List ℕ) → length body ≡ begun.body_len
+      → Means (take n bytes) body (filled begun.message body)
 
--- the state of a reader and the bytes behind the head that it read
-abbrev pub Stands : {P : Type 0} → (List ℕ → P → Type 0) → State P → List ℕ → Type 0
-Stands IsHead (states.Looking n phase) held = IsOpen held n phase
-Stands IsHead (states.Ended n) held = IsEnded held n
-Stands IsHead (states.Read text parts) held = IsRead IsHead text.items parts
-Stands IsHead (states.Broken n) held = held ≡ []
+-- the state of a reader and the bytes that it holds
+abbrev pub Stands : {M : Type 0} → (List ℕ → ℕ → Type 0) → (List ℕ → List ℕ → M → Type 0)
+    → (M → List ℕ → M) → State M → List ℕ → Type 0
+Stands IsHead Means filled (states.Looking n phase) held = IsOpen held n phase
+Stands IsHead Means filled (states.Ended n) held = IsEnded held n
+Stands IsHead Means filled (states.Read n begun) held = IsRead IsHead Means filled held n begun
+Stands IsHead Means filled (states.Broken n) held = held ≡ []
 
 -- the look is over: the bytes that are held show no end of a head, or as many as a head may have
-abbrev pub IsLooked : {P : Type 0} → State P → List ℕ → Type 0
+abbrev pub IsLooked : {M : Type 0} → State M → List ℕ → Type 0
 IsLooked (states.Looking n phase) held = n ≡ min (length held) most_head
 IsLooked (states.Ended n) held = ⊤
-IsLooked (states.Read text parts) held = ⊤
+IsLooked (states.Read n begun) held = ⊤
 IsLooked (states.Broken n) held = ⊤
 
 -- no head waits to be read
-abbrev pub IsPast : {P : Type 0} → State P → List ℕ → Type 0
+abbrev pub IsPast : {M : Type 0} → State M → List ℕ → Type 0
 IsPast (states.Looking n phase) held = n ≡ min (length held) most_head
 IsPast (states.Ended n) held = ⊥
-IsPast (states.Read text parts) held = ⊤
+IsPast (states.Read n begun) held = ⊤
 IsPast (states.Broken n) held = ⊤
 
--- A message was found behind the head that was read, and its body taken off.
-pub record Gives {P M : Type 0} (Means : List ℕ → List ℕ → M → Type 0) (state : State P)
+-- A message was found at the front of the bytes held, and its head and body taken off.
+pub record Gives {M : Type 0} (Means : List ℕ → List ℕ → M → Type 0) (state : State M)
     (old new : List ℕ) (m : M) : Type 0 where
+  pub text : List ℕ
   pub body : List ℕ
-  pub means : Means (text_of state) body m
-  pub held : old ≡ body ++ new
-  pub spent : spent_of state ≡ 2 * length (text_of state)
+  pub means : Means text body m
+  pub held : old ≡ (text ++ body) ++ new
+  pub spent : spent_of state ≡ 2 * length text
   pub whole : is_broken_state state ≡ false
 
 -- A message was taken from the front of the bytes held. Each byte of its head was looked at twice,

@@ -37,6 +37,9 @@ pub enum Look {
 fn after(phase: Phase, byte: u8) -> Option<Phase>
     ensures { result ≡ after phase byte }
 {
+    if byte > b'\r' {
+        return Some(Phase::Line);
+    }
     match phase {
         Phase::Blank => {
             if byte == b'\r' || byte == b'\n' {

@@ -1,16 +1,17 @@
 //! A reader of messages of any kind, which looks at each byte of a head once and reads it once.
-ghost use Rattle.std.specs.Prelude.{◌⊎◌, ◌≡◌, ◌<◌, ◌≤◌, ◌+◌, ◌-◌, ◌*◌, ◌↔◌, [], ◌++◌, length, IsTrue, IsFalse, IsOk, OnOk, OnErr, min};
+ghost use Rattle.std.specs.Prelude.{◌⊎◌, ◌≡◌, ◌<◌, ◌≤◌, ◌+◌, ◌-◌, ◌*◌, ◌↔◌, [], length, IsTrue, IsFalse, IsOk, OnOk, OnErr, min};
 ghost use Rattle.asp_messages.specs.Fields.{most_body};
 ghost use Rattle.asp_messages.specs.Head.{most_head};
 ghost use Rattle.asp_messages.specs.Stream.{HasNoMessage, IsHopeless};
-ghost use Rattle.message_framing.specs.Framed.{Framed, IfFound, UnlessFound, text_of, spent_of, is_broken_state, Stands, IsLooked, IsPast, Gives, SpendsWithin, TakesFramed, IsNext};
+ghost use Rattle.message_framing.specs.Framed.{Framed, IfFound, UnlessFound, spent_of, is_broken_state, Stands, IsLooked, IsPast, Gives, SpendsWithin, TakesFramed, IsNext};
 ghost use Rattle.message_framing.specs.Held.{Reading, empty_reader, fed, waiting, broken, most_held, most_piece};
 
 use crate::head_end::{Look, MOST_HEAD, Phase, look_on};
-use crate::kind::MessageKind;
+use crate::kind::{Begun, MessageKind};
 use asp_base::{Held, NoMemory, Steps};
 use std::alloc::Global;
 use std::marker::{Brand, Model};
+use std::mem::replace;
 use std::sync::ledger::{Blank, Ledger};
 
 /// The most bytes of a piece that is fed.
@@ -34,13 +35,13 @@ pub enum Found<M> {
 
 /// How far a reader has come with the first message of the bytes that it holds.
 #[derive(Drop)]
-pub enum State<P> {
+pub enum State<M> {
     /// It looked at so many bytes, in which the head doesn't end.
     Looking(u64, Phase),
     /// The head ends after so many bytes, and was not read.
     Ended(u64),
-    /// The head has this text and these parts, and was taken off the bytes.
-    Read(Vec<u8>, P),
+    /// The head has so many bytes, and begins this message.
+    Read(u64, Begun<M>),
     /// No message can come. A byte was looked at so often.
     Broken(u64),
 }
@@ -51,32 +52,31 @@ pub enum State<P> {
 pub struct MessageReader<K: MessageKind> {
     alloc: Global,
     held: Held,
-    state: State<K::Parts>,
+    state: State<K::Message>,
     may_feed: bool,
 }
 
 impl<K: MessageKind> Model for MessageReader<K> {
-    ghost use Rattle.std.specs.Prelude.{◌<◌, ◌≤◌, ◌+◌, ◌++◌, length, IsTrue};
+    ghost use Rattle.std.specs.Prelude.{◌<◌, ◌≤◌, ◌+◌, length, IsTrue};
     ghost use Rattle.asp_messages.specs.Fields.{most_body};
     ghost use Rattle.asp_messages.specs.Head.{most_head};
-    ghost use Rattle.message_framing.specs.Framed.{Stands, reading_of, text_of};
+    ghost use Rattle.message_framing.specs.Framed.{Stands, reading_of};
     ghost use Rattle.message_framing.specs.Held.{Reading, most_held};
 
     ghost Value = { Reading };
 
     ghost view = { λ r. reading_of r.state r.held r.may_feed };
 
-    ghost invariant = { λ r. Stands K.IsHead r.state r.held
-        × (length (text_of r.state ++ r.held) ≤ most_held)
-        × (IsTrue r.may_feed → length (text_of r.state ++ r.held) < most_head + most_body) };
+    ghost invariant = { λ r. Stands K.IsHead K.Means K.filled r.state r.held
+        × (length r.held ≤ most_held)
+        × (IsTrue r.may_feed → length r.held < most_head + most_body) };
 }
 
 /// Looks on for the end of the head.
-fn look<K: MessageKind, L: Ledger>(held: &Held, state: &mut State<K::Parts>, steps: &mut Steps<L>)
-    requires { Stands K.IsHead state.old held.now }
-    ensures stands { Stands K.IsHead state.new held.now }
+fn look<K: MessageKind, L: Ledger>(held: &Held, state: &mut State<K::Message>, steps: &mut Steps<L>)
+    requires { Stands K.IsHead K.Means K.filled state.old held.now }
+    ensures stands { Stands K.IsHead K.Means K.filled state.new held.now }
     ensures looked { IsLooked state.new held.now }
-    ensures text { text_of state.new ≡ text_of state.old }
     ensures broken { is_broken_state state.new ≡ is_broken_state state.old }
     ensures stays { IsTrue (is_broken_state state.old) → state.new ≡ state.old }
     ensures steps { steps.new + spent_of state.old ≡ steps.old + spent_of state.new }
@@ -90,27 +90,24 @@ fn look<K: MessageKind, L: Ledger>(held: &Held, state: &mut State<K::Parts>, ste
     }
 }
 
-/// Reads the head whose end was found, and takes it off the bytes. After `NoMemory` nothing has
-/// changed.
+/// Reads the head whose end was found. After `NoMemory` nothing has changed.
 fn read<K: MessageKind, L: Ledger>(
     alloc: Global,
     held: &mut Held,
-    state: &mut State<K::Parts>,
+    state: &mut State<K::Message>,
     steps: &mut Steps<L>,
 ) -> Result<(), NoMemory>
-    requires stands { Stands K.IsHead state.old held.old }
+    requires stands { Stands K.IsHead K.Means K.filled state.old held.old }
     requires looked { IsLooked state.old held.old }
-    ensures stands { Stands K.IsHead state.new held.new }
+    ensures stands { Stands K.IsHead K.Means K.filled state.new held.new }
     ensures past { OnOk result (IsPast state.new held.new) }
-    ensures same { OnOk result (IsFalse (is_broken_state state.new)
-        → text_of state.new ++ held.new ≡ text_of state.old ++ held.old) }
+    ensures same { OnOk result (IsFalse (is_broken_state state.new) → held.new ≡ held.old) }
     ensures hopeless { OnOk result (IsTrue (is_broken_state state.new)
-        → IsTrue (is_broken_state state.old) ⊎ IsHopeless (Framed K.Means)
-        (text_of state.old ++ held.old)) }
+        → IsTrue (is_broken_state state.old) ⊎ IsHopeless (Framed K.Means) held.old) }
     ensures stays { IsTrue (is_broken_state state.old)
         → IsOk result × (state.new ≡ state.old) × (held.new ≡ held.old) }
     ensures within { IsFalse (is_broken_state state.old)
-        → spent_of state.new ≤ 2 * min (length (text_of state.old ++ held.old)) most_head }
+        → spent_of state.new ≤ 2 * min (length held.old) most_head }
     ensures err { OnErr result (state.new ≡ state.old) }
     ensures err_held { OnErr result (held.new ≡ held.old) }
     ensures steps { steps.new + spent_of state.old ≡ steps.old + spent_of state.new }
@@ -119,13 +116,9 @@ fn read<K: MessageKind, L: Ledger>(
     let State::Ended(len) = *state else {
         return Ok(());
     };
-    let mut text = Vec::with_capacity(alloc, len as usize)?;
-    text.extend_from_slice(held.front(len, steps))?;
-    match K::parse(&text) {
-        Some(parts) => {
-            held.split(len, 0)?;
-            *state = State::Read(text, parts);
-        }
+    let room = Vec::with_capacity(alloc, len as usize)?;
+    match K::begin(room, held.front(len, steps)) {
+        Some(begun) => *state = State::Read(len, begun),
         None => {
             *held = Held::new(alloc);
             *state = State::Broken(2 * len);
@@ -134,35 +127,32 @@ fn read<K: MessageKind, L: Ledger>(
     Ok(())
 }
 
-/// Gives the message of the head that was read, where its body is whole, and takes the body off the
+/// Gives the message of the head that was read, where its body is whole, and takes both off the
 /// bytes.
 fn give<K: MessageKind>(
     alloc: Global,
     held: &mut Held,
-    state: &mut State<K::Parts>,
+    state: &mut State<K::Message>,
 ) -> Found<K::Message>
-    requires stands { Stands K.IsHead state.old held.old }
+    requires stands { Stands K.IsHead K.Means K.filled state.old held.old }
     requires past { IsPast state.old held.old }
-    ensures stands { Stands K.IsHead state.new held.new }
+    ensures stands { Stands K.IsHead K.Means K.filled state.new held.new }
     ensures message { IfFound result (λ m. Gives K.Means state.old held.old held.new m
         × (state.new ≡ State.Looking 0 Phase.Blank)) }
     ensures same { UnlessFound result (spent_of state.new ≡ spent_of state.old) }
     ensures more { result ≡ Found.More → (state.new ≡ state.old) × (held.new ≡ held.old) }
-    ensures room { result ≡ Found.More → length (text_of state.old ++ held.old) < most_head
-        + most_body }
-    ensures none_whole { result ≡ Found.More →
-        HasNoMessage (Framed K.Means) (text_of state.old ++ held.old) }
-    ensures waits { result ≡ Found.More → K.Waits (text_of state.old ++ held.old) }
-    ensures broken { result ≡ Found.Broken → (held.new ≡ []) × IsTrue (is_broken_state state.new)
-        × (text_of state.new ≡ []) }
+    ensures room { result ≡ Found.More → length held.old < most_head + most_body }
+    ensures none_whole { result ≡ Found.More → HasNoMessage (Framed K.Means) held.old }
+    ensures waits { result ≡ Found.More → K.Waits held.old }
+    ensures broken { result ≡ Found.Broken → (held.new ≡ []) × IsTrue (is_broken_state state.new) }
     ensures hopeless { result ≡ Found.Broken → IsTrue (is_broken_state state.old)
-        ⊎ IsHopeless (Framed K.Means) (text_of state.old ++ held.old) }
+        ⊎ IsHopeless (Framed K.Means) held.old }
     ensures stays { IsTrue (is_broken_state state.old)
         → (result ≡ Found.Broken) × (spent_of state.new ≡ spent_of state.old) }
     ensures less { spent_of state.new ≤ spent_of state.old }
     ensures no_memory { result ≡ Found.NoMemory → (state.new ≡ state.old) × (held.new ≡ held.old) }
 {
-    let message = match state {
+    let (len, wanted) = match state {
         State::Looking(len, _) => {
             if *len < MOST_HEAD as u64 {
                 return Found::More;
@@ -174,22 +164,18 @@ fn give<K: MessageKind>(
         }
         State::Ended(_) => return Found::More,
         State::Broken(_) => return Found::Broken,
-        State::Read(text, parts) => {
-            let wanted = K::body_len(parts);
-            if held.len() < wanted {
-                return Found::More;
-            }
-            let Ok(message) = K::begin(alloc, text, parts) else {
-                return Found::NoMemory;
-            };
-            let Ok(body) = held.split(0, wanted) else {
-                return Found::NoMemory;
-            };
-            K::fill(message, body)
-        }
+        State::Read(len, begun) => (*len, begun.body_len),
     };
-    *state = State::Looking(0, Phase::Blank);
-    Found::Message(message)
+    if held.len() - len < wanted {
+        return Found::More;
+    }
+    let Ok(body) = held.split(len, wanted) else {
+        return Found::NoMemory;
+    };
+    match replace(state, State::Looking(0, Phase::Blank)) {
+        State::Read(_, begun) => Found::Message(K::fill(begun.message, body)),
+        _ => Found::More,
+    }
 }
 
 impl<K: MessageKind> MessageReader<K> {
@@ -228,7 +214,7 @@ impl<K: MessageKind> MessageReader<K> {
     {
         match &self.state {
             State::Looking(len, _) | State::Ended(len) | State::Broken(len) => *len,
-            State::Read(text, _) => 2 * text.len() as u64,
+            State::Read(len, _) => 2 * *len,
         }
     }
 
@@ -289,9 +275,6 @@ impl<K: MessageKind> MessageReader<K> {
     pub fn end(&self) -> bool
         ensures { IsTrue result ↔ (IsFalse self.now.bytes.is_broken × (self.now.bytes.held ≡ [])) }
     {
-        match &self.state {
-            State::Looking(_, _) | State::Ended(_) => self.held.len() == 0,
-            State::Read(_, _) | State::Broken(_) => false,
-        }
+        !matches!(self.state, State::Broken(_)) && self.held.len() == 0
     }
 }

@@ -1,29 +1,32 @@
 -- What the head of a response means.
 use Rattle.std.specs.Prelude.{◌≡◌, ℕ, ◌≤◌, List, [], ◌∷◌, length, take, map, Some}
 use Rattle.httparse.specs.Grammar.{ResponseHead, status_code}
+use Rattle.httparse.specs.declared.spans.HeaderSpan.{HeaderSpan}
+use Rattle.httparse.specs.declared.spans.ResponseSpans.{ResponseSpans}
 use Rattle.httparse.specs.Spans.{header_bytes, IsResponseWithin, IsResponseOf}
 use Rattle.asp_messages.specs.declared.reply.Reply.{Reply}
 use Rattle.asp_messages.specs.declared.reply.Reply.TheVariants as replies
 use Rattle.asp_messages.specs.Fields.{response_fields, body_length}
 use Rattle.asp_messages.specs.Head.{IsReplyHead, most_head}
 use Rattle.asp_messages.specs.ReplySpelling.{Answer, reply, strange, answer_of}
-use Rattle.reply_reader.specs.declared.parts.ReplyParts.{ReplyParts}
 use Rattle.reply_reader.specs.declared.parts.ReplyMessage.{ReplyMessage}
 use Rattle.reply_reader.specs.declared.parts.ReplyMessage.TheVariants as messages
 
--- The text is a head, these are its parts, and its body has the length that it announces.
-pub record IsReplyParts (text : List ℕ) (parts : ReplyParts) : Type 0 where
-  pub within : IsResponseWithin text parts.headers parts.spans
-  pub of : IsResponseOf text parts.headers parts.spans
-  pub whole : parts.spans.len ≡ length text
-  pub short : length text ≤ most_head
-  pub room : length parts.headers ≤ 64
-  pub announced : body_length (map (header_bytes text) (take parts.spans.headers parts.headers))
-      ≡ Some parts.body_len
+-- The text is a head that announces a body of so many bytes.
+pub record IsAnnounced (text : List ℕ) (len : ℕ) : Type 0 where
+  pub head : ResponseHead
+  pub is_head : IsReplyHead text head
+  pub announced : body_length (response_fields head) ≡ Some len
 
--- the length of the body that the parts announce
-abbrev pub body_len_of : ReplyParts → ℕ
-body_len_of parts = parts.body_len
+-- The text is a head, its parts lie at these spans, and its body has the length that it announces.
+pub record IsParsed (text : List ℕ) (headers : List HeaderSpan) (spans : ResponseSpans) (len : ℕ)
+    : Type 0 where
+  pub within : IsResponseWithin text headers spans
+  pub of : IsResponseOf text headers spans
+  pub whole : spans.len ≡ length text
+  pub short : length text ≤ most_head
+  pub room : length headers ≤ 64
+  pub announced : body_length (map (header_bytes text) (take spans.headers headers)) ≡ Some len
 
 -- the answer that a message is
 abbrev pub answer_told : ReplyMessage → Answer

@@ -7,6 +7,8 @@ use Rattle.std.proofs.lemmas.Bool.Decides.{nat_tests}
 use Rattle.httparse.specs.Ascii.{space}
 use Rattle.httparse.specs.Grammar.{ResponseHead, print_response, print_version, print_blank, print_end, IsResponseHead as IsGrammarHead, is_value_byte, AllPass, print_reason, reason_phrase, status_code}
 use Rattle.httparse.proofs.GrammarLemmas.{response_unique}
+use Rattle.httparse.specs.declared.spans.HeaderSpan.{HeaderSpan}
+use Rattle.httparse.specs.declared.spans.ResponseSpans.{ResponseSpans}
 use Rattle.httparse.specs.Spans.{header_bytes}
 use Rattle.asp_messages.specs.declared.reply.Reply.{Reply}
 use Rattle.asp_messages.proofs.FramingLemmas.{body_length-le}
@@ -21,11 +23,10 @@ use Rattle.message_framing.specs.Framed.{Framed, TakesFramed}
 use Rattle.message_framing.specs.Held.{Reading}
 use Rattle.message_framing.proofs.EndLemmas.{none-seen}
 use Rattle.message_framing.proofs.SectionLemmas.{then, in-line, in-line-one, end-line, blank-lines, section-ends}
-use Rattle.reply_reader.specs.declared.parts.ReplyParts.{ReplyParts}
 use Rattle.reply_reader.specs.declared.parts.ReplyMessage.{ReplyMessage}
 use Rattle.reply_reader.specs.declared.parts.ReplyMessage.TheVariants as messages
 use Rattle.reply_reader.specs.ReplyNext.{TakesCounted}
-use Rattle.reply_reader.specs.Replies.{IsReplyParts, body_len_of, MeansReply, answer_told, filled, filled_reply}
+use Rattle.reply_reader.specs.Replies.{IsAnnounced, IsParsed, MeansReply, answer_told, filled, filled_reply}
 
 -- ---- where a head ends
 
@@ -67,40 +68,43 @@ pub ends : (text body : List ℕ) (m : ReplyMessage) → MeansReply text body m
     → EndsHead text × (length text ≤ most_head)
 ends text body m means = (head-ends text means.head means.is_head, means.is_head.short)
 
--- the head of the parts is the only one
-one_head : (text : List ℕ) (parts : ReplyParts) (h : ResponseHead) → (is : IsReplyParts text parts)
-    → IsReplyHead text h → is.of.0 ≡ h
-one_head text parts h is head = (response_unique text is.of.0 h _ [] is.of.1.reads head.reads).0
-
-pub fits : (text body : List ℕ) (parts : ReplyParts) (m : ReplyMessage) → IsReplyParts text parts
-    → MeansReply text body m → length body ≡ body_len_of parts
-fits text body parts m is means =
-    let same : ◌≡◌ {A = Option ℕ} (Some (length body)) (Some parts.body_len) =
-    sym means.announced ∙ ap (λ h. body_length (response_fields h))
-    (sym (one_head text parts means.head is means.is_head))
-    ∙ ap body_length (sym is.of.1.fields) ∙ is.announced in
+pub fits : (text body : List ℕ) (len : ℕ) (m : ReplyMessage) → IsAnnounced text len
+    → MeansReply text body m → length body ≡ len
+fits text body len m is means =
+    let one_head : is.head ≡ means.head =
+    (response_unique text is.head means.head _ [] is.is_head.reads means.is_head.reads).0 in
+    let same : ◌≡◌ {A = Option ℕ} (Some (length body)) (Some len) =
+    sym means.announced ∙ ap (λ h. body_length (response_fields h)) (sym one_head)
+    ∙ is.announced in
     cc
 
-pub short : (text : List ℕ) (parts : ReplyParts) → IsReplyParts text parts
-    → body_len_of parts ≤ most_body
-short text parts is = body_length-le _ _ is.announced
+pub short : (text : List ℕ) (len : ℕ) → IsAnnounced text len → len ≤ most_body
+short text len is = body_length-le _ _ is.announced
 
--- the text of the parts is a head
-pub parts-head : (text : List ℕ) (parts : ReplyParts) → (is : IsReplyParts text parts)
-    → IsReplyHead text is.of.0
-parts-head text parts is =
-    let spans = parts.spans in
+-- the text of the spans is a head
+pub parsed-head : (text : List ℕ) (headers : List HeaderSpan) (spans : ResponseSpans) (len : ℕ)
+    → (is : IsParsed text headers spans len) → IsReplyHead text is.of.0
+parsed-head text headers spans len is =
     let same = simp map-length at (ap length is.of.1.fields) in
     record {
       reads = (
         is.of.1.reads.0,
         is.of.1.reads.1
             ∙ ap (λ t. print_response is.of.0 ++ t)
-            (drop_all parts.spans.len text (omega (arith, is.whole))),
+            (drop_all spans.len text (omega (arith, is.whole))),
       );
       short = is.short;
-      few = omega (arith, same, length-take spans.headers parts.headers, is.room);
+      few = omega (arith, same, length-take spans.headers headers, is.room);
     }
+
+-- what the head announces
+pub parsed-announced : (text : List ℕ) (headers : List HeaderSpan) (spans : ResponseSpans)
+    (len : ℕ) → IsParsed text headers spans len → IsAnnounced text len
+parsed-announced text headers spans len is = record {
+  head = is.of.0;
+  is_head = parsed-head text headers spans len is;
+  announced = ap body_length (sym is.of.1.fields) ∙ is.announced;
+}
 
 pub waits_for_head : (bytes : List ℕ) (phase : Phase) → seen Blank bytes ≡ Some phase
     → length bytes < most_head → IsWaiting IsReplyHead response_fields bytes
@@ -110,16 +114,16 @@ waits_for_head bytes phase so room = inl (
   room,
 )
 
-pub waits_for_body : (text back : List ℕ) (parts : ReplyParts) → IsReplyParts text parts
-    → length back < body_len_of parts → IsWaiting IsReplyHead response_fields (text ++ back)
-waits_for_body text back parts is few = inr (record {
-  head = is.of.0;
+pub waits_for_body : (text back : List ℕ) (len : ℕ) → IsAnnounced text len → length back < len
+    → IsWaiting IsReplyHead response_fields (text ++ back)
+waits_for_body text back len is few = inr (record {
+  head = is.head;
   front = text;
   back = back;
-  len = parts.body_len;
+  len = len;
   bytes_are = refl;
-  is_head = parts-head text parts is;
-  announced = ap body_length (sym is.of.1.fields) ∙ is.announced;
+  is_head = is.is_head;
+  announced = is.announced;
   short = few;
 })
 
@@ -259,21 +263,22 @@ unfolding reply_of
 answer-filled status fields body = by_status (status == 200) status fields body refl
 
 -- the message of a head's parts, with its body still to come
-pub begins : (text : List ℕ) (parts : ReplyParts) (m : ReplyMessage) → IsReplyParts text parts
-    → answer_told m ≡ answer_of parts.spans.code
-    (map (header_bytes text) (take parts.spans.headers parts.headers)) []
-    → (body : List ℕ) → length body ≡ parts.body_len → MeansReply text body (filled m body)
-begins text parts m is says body len =
+pub begins : (text : List ℕ) (headers : List HeaderSpan) (spans : ResponseSpans) (len : ℕ)
+    (m : ReplyMessage) → IsParsed text headers spans len
+    → answer_told m ≡ answer_of spans.code
+    (map (header_bytes text) (take spans.headers headers)) []
+    → (body : List ℕ) → length body ≡ len → MeansReply text body (filled m body)
+begins text headers spans len m is says body same_len =
     let head = is.of.0 in
     let at = is.of.1 in
-    let fields = map (header_bytes text) (take parts.spans.headers parts.headers) in
+    let fields = map (header_bytes text) (take spans.headers headers) in
     record {
       head = head;
-      is_head = parts-head text parts is;
-      announced = ap body_length (sym at.fields) ∙ is.announced ∙ ap Some (sym len);
+      is_head = parsed-head text headers spans len is;
+      announced = ap body_length (sym at.fields) ∙ is.announced ∙ ap Some (sym same_len);
       answer_is =
           filled-told m body ∙ ap (λ a. filled_answer a body) says
-          ∙ answer-filled parts.spans.code fields body
+          ∙ answer-filled spans.code fields body
           ∙ ap (λ status. answer_of status fields body) at.code
           ∙ ap (λ fs. answer_of (status_code head) fs body) at.fields;
     }

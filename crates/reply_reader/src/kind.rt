@@ -1,31 +1,45 @@
 //! Replies as a kind of messages.
-ghost use Rattle.std.specs.Prelude.{◌≡◌, length};
+ghost use Rattle.std.specs.Prelude.{◌≡◌, ◌≤◌, ℕ, List, length, IfSome, IsNone};
 ghost use Rattle.asp_messages.specs.Fields.{response_fields};
-ghost use Rattle.asp_messages.specs.Head.{IsReplyHead};
+ghost use Rattle.asp_messages.specs.Head.{IsReplyHead, most_head};
 ghost use Rattle.asp_messages.specs.Stream.{IsWaiting};
-ghost use Rattle.reply_reader.specs.Replies.{IsReplyParts, body_len_of, MeansReply, filled, filled_reply};
+ghost use Rattle.reply_reader.specs.declared.parts.ReplyMessage.{ReplyMessage as AnyMessage};
+ghost use Rattle.reply_reader.specs.Replies.{IsAnnounced, IsParsed, MeansReply, filled, filled_reply};
 ghost use Rattle.reply_reader.specs.ReplyLaws.{ends, fits, short, waits_for_head, waits_for_body};
 
-use crate::parts::{ReplyMessage, ReplyParts};
+use crate::parts::ReplyMessage;
 use crate::reply::reply;
-use asp_base::{Bytes, NoMemory};
+use asp_base::Bytes;
 use asp_messages::Reply;
 use httparse::Status;
-use httparse::spans::{EMPTY_HEADER_SPAN, parse_response};
-use message_framing::{MessageKind, body_length};
-use std::alloc::Global;
+use httparse::spans::{EMPTY_HEADER_SPAN, HeaderSpan, ResponseSpans, parse_response};
+use message_framing::{Begun, MessageKind, body_length};
 
 /// Replies.
 pub struct Replies;
 
-impl MessageKind for Replies {
-    type Parts = ReplyParts;
+/// Where a head that ends with the text has its parts, and the length of the body that it
+/// announces, in bytes. `None` where no message begins with the text.
+fn parse(text: &[u8], headers: &mut [HeaderSpan; 64]) -> Option<(ResponseSpans, u64)>
+    requires { length text.now ≤ most_head }
+    ensures head { IfSome result (λ r. IsParsed text.now headers.new r.0 r.1) }
+    ensures none { IsNone result → (body : List ℕ) (m : AnyMessage) → MeansReply text.now body m
+        → ⊥ }
+{
+    let Ok(Status::Complete(spans)) = parse_response(text, headers) else {
+        return None;
+    };
+    if spans.len != text.len() {
+        return None;
+    }
+    let body_len = body_length(text, &headers[..spans.headers])?;
+    Some((spans, body_len))
+}
 
+impl MessageKind for Replies {
     type Message = ReplyMessage;
 
-    ghost IsHead = { IsReplyParts };
-
-    ghost announced = { body_len_of };
+    ghost IsHead = { IsAnnounced };
 
     ghost Means = { MeansReply };
 
@@ -43,33 +57,15 @@ impl MessageKind for Replies {
 
     ghost waits_for_body = { waits_for_body };
 
-    fn parse(text: &[u8]) -> Option<ReplyParts> {
+    fn begin(room: Vec<u8>, text: &[u8]) -> Option<Begun<ReplyMessage>> {
         let mut headers = [EMPTY_HEADER_SPAN; 64];
-        let Ok(Status::Complete(spans)) = parse_response(text, &mut headers) else {
-            return None;
+        let (spans, body_len) = parse(text, &mut headers)?;
+        let alloc = *room.allocator();
+        let message = match reply(alloc, spans.code, text, &headers[..spans.headers]) {
+            Some(reply) => ReplyMessage::Reply(reply),
+            None => ReplyMessage::Strange(spans.code),
         };
-        if spans.len != text.len() {
-            return None;
-        }
-        let body_len = body_length(text, &headers[..spans.headers])?;
-        Some(ReplyParts {
-            headers,
-            spans,
-            body_len,
-        })
-    }
-
-    fn body_len(parts: &ReplyParts) -> u64 {
-        parts.body_len
-    }
-
-    fn begin(alloc: Global, text: &[u8], parts: &ReplyParts) -> Result<ReplyMessage, NoMemory> {
-        let spans = parts.spans;
-        let headers = &parts.headers[..spans.headers];
-        match reply(alloc, spans.code, text, headers, &[])? {
-            Some(reply) => Ok(ReplyMessage::Reply(reply)),
-            None => Ok(ReplyMessage::Strange(spans.code)),
-        }
+        Some(Begun { message, body_len })
     }
 
     fn fill(message: ReplyMessage, body: Bytes) -> ReplyMessage {

@@ -1,46 +1,33 @@
 //! The reply that a response's head and body spell.
-ghost use Rattle.std.specs.Prelude.{◌≡◌, length, map, All, IfOk, codes};
+ghost use Rattle.std.specs.Prelude.{◌≡◌, [], length, map, All, codes};
 ghost use Rattle.httparse.specs.Spans.{IsHeaderWithin, header_bytes};
 ghost use Rattle.asp_messages.specs.Fields as fields;
 ghost use Rattle.asp_messages.specs.ReplySpelling as spelling;
 ghost use Rattle.message_framing.specs.Standings.{standing_of};
 
-use asp_base::{Bytes, NoMemory};
+use asp_base::Bytes;
 use asp_messages::{MOST_AGE, MOST_COOKIE, MOST_MINUTES, Reply, named};
 use httparse::spans::HeaderSpan;
 use message_framing::{Standing, find_field, lock_cookie, number_needed, number_or};
 use std::alloc::Global;
 
+/// Content without its body.
 fn found_reply(
     alloc: Global,
-    body: &[u8],
     minutes: Option<u64>,
     cookie: Option<u64>,
     flag: Option<u64>,
-) -> Result<Option<Reply>, NoMemory>
-    ensures { IfOk result (λ reply. reply ≡ spelling.found_reply body.now minutes cookie flag) }
+) -> Option<Reply>
+    ensures { result ≡ spelling.found_reply [] minutes cookie flag }
 {
     match (minutes, cookie, flag) {
-        (Some(minutes), Some(cookie), Some(flag)) => {
-            let body = Bytes::copy(alloc, body)?;
-            Ok(Some(Reply::Found {
-                body,
-                minutes,
-                cookie: named(cookie),
-                first: flag == 1,
-            }))
-        }
-        _ => Ok(None),
-    }
-}
-
-fn done_reply(body: &[u8]) -> Option<Reply>
-    ensures { result ≡ spelling.done_reply body.now }
-{
-    if body.is_empty() {
-        Some(Reply::Done)
-    } else {
-        None
+        (Some(minutes), Some(cookie), Some(flag)) => Some(Reply::Found {
+            body: Bytes::adopt(Vec::new(alloc)),
+            minutes,
+            cookie: named(cookie),
+            first: flag == 1,
+        }),
+        _ => None,
     }
 }
 
@@ -74,26 +61,20 @@ fn timeout(buf: &[u8], headers: &[HeaderSpan]) -> Option<u64>
     if 1 <= minutes { Some(minutes) } else { None }
 }
 
-/// What 200 says: the content where `Timeout` stands, else that what was asked is done.
-fn ok_reply(
-    alloc: Global,
-    buf: &[u8],
-    headers: &[HeaderSpan],
-    body: &[u8],
-) -> Result<Option<Reply>, NoMemory>
+/// What 200 says without a body: content where `Timeout` stands, else that what was asked is done.
+fn ok_reply(alloc: Global, buf: &[u8], headers: &[HeaderSpan]) -> Option<Reply>
     requires { All (IsHeaderWithin (length buf.now)) headers.now }
     ensures { let fs = map (header_bytes buf.now) headers.now in
-        IfOk result (λ reply. reply ≡ spelling.ok_reply (fields.once fs (codes "Timeout")) body.now
-        (spelling.found_reply body.now (spelling.minutes_field fs) (fields.lock_cookie_field fs)
-        (spelling.action_flags_field fs))) }
+        result ≡ spelling.ok_reply (fields.once fs (codes "Timeout")) []
+        (spelling.found_reply [] (spelling.minutes_field fs) (fields.lock_cookie_field fs)
+        (spelling.action_flags_field fs)) }
 {
     match find_field(buf, headers, b"Timeout") {
-        Standing::Absent => Ok(done_reply(body)),
+        Standing::Absent => Some(Reply::Done),
         _ => {
             let flags = find_field(buf, headers, b"ActionFlags");
             found_reply(
                 alloc,
-                body,
                 timeout(buf, headers),
                 lock_cookie(buf, headers),
                 number_or(0, 0, 1, flags),
@@ -102,28 +83,20 @@ fn ok_reply(
     }
 }
 
-/// What the status says with the fields of the head that lies in `buf`, and with the body behind
-/// it.
-/// `None` where that is no form of a reply.
+/// What the status says, without a body, with the fields of the head that lies in `buf`. `None`
+/// where that is no form of a reply. It takes no memory.
 #[tactic(auto, unfolding(asp_messages::specs::ReplySpelling::reply_of))]
-pub fn reply(
-    alloc: Global,
-    status: u16,
-    buf: &[u8],
-    headers: &[HeaderSpan],
-    body: &[u8],
-) -> Result<Option<Reply>, NoMemory>
+pub fn reply(alloc: Global, status: u16, buf: &[u8], headers: &[HeaderSpan]) -> Option<Reply>
     requires { All (IsHeaderWithin (length buf.now)) headers.now }
-    ensures { IfOk result (λ reply. reply ≡ spelling.reply_of status
-        (map (header_bytes buf.now) headers.now) body.now) }
+    ensures { result ≡ spelling.reply_of status (map (header_bytes buf.now) headers.now) [] }
 {
     if status == 200 {
-        return ok_reply(alloc, buf, headers, body);
+        return ok_reply(alloc, buf, headers);
     }
     if status == 423 {
         let cookie = number_needed(MOST_COOKIE, find_field(buf, headers, b"LockCookie"));
         let age = number_needed(MOST_AGE, find_field(buf, headers, b"LockAge"));
-        return Ok(locked_reply(cookie, age));
+        return locked_reply(cookie, age);
     }
-    Ok(plain_reply(status))
+    plain_reply(status)
 }

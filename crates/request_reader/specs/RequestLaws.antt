@@ -7,6 +7,8 @@ use Rattle.percent_encoding.specs.Percent.{percent_decode}
 use Rattle.httparse.specs.Ascii.{space}
 use Rattle.httparse.specs.Grammar.{RequestHead, print_request, print_version, print_blank, print_end, IsRequestHead as IsGrammarHead, is_uri_byte}
 use Rattle.httparse.proofs.GrammarLemmas.{request_unique}
+use Rattle.httparse.specs.declared.spans.HeaderSpan.{HeaderSpan}
+use Rattle.httparse.specs.declared.spans.RequestSpans.{RequestSpans}
 use Rattle.httparse.specs.Spans.{header_bytes, span_bytes}
 use Rattle.asp_base.specs.Text.{is_same_name}
 use Rattle.asp_messages.specs.declared.request.Ask.{Ask}
@@ -24,9 +26,8 @@ use Rattle.message_framing.specs.Framed.{Framed, TakesFramed}
 use Rattle.message_framing.specs.Held.{Reading}
 use Rattle.message_framing.proofs.EndLemmas.{none-seen}
 use Rattle.message_framing.proofs.SectionLemmas.{then, in-line, in-line-one, end-line, token-line, blank-line, blank-lines, section-ends}
-use Rattle.request_reader.specs.declared.parts.RequestParts.{RequestParts}
 use Rattle.request_reader.specs.Next.{TakesCounted}
-use Rattle.request_reader.specs.Requests.{IsRequestParts, body_len_of, MeansRequest, filled, filled_ask}
+use Rattle.request_reader.specs.Requests.{IsAnnounced, IsParsed, MeansRequest, filled, filled_ask}
 
 -- ---- where a head ends
 
@@ -62,40 +63,43 @@ pub ends : (text body : List ℕ) (m : Message) → MeansRequest text body m
     → EndsHead text × (length text ≤ most_head)
 ends text body m means = (head-ends text means.head means.is_head, means.is_head.short)
 
--- the head of the parts is the only one
-one_head : (text : List ℕ) (parts : RequestParts) (h : RequestHead)
-    → (is : IsRequestParts text parts) → IsRequestHead text h → is.of.0 ≡ h
-one_head text parts h is head = (request_unique text is.of.0 h _ [] is.of.1.reads head.reads).0
-
-pub fits : (text body : List ℕ) (parts : RequestParts) (m : Message) → IsRequestParts text parts
-    → MeansRequest text body m → length body ≡ body_len_of parts
-fits text body parts m is means =
-    let same : ◌≡◌ {A = Option ℕ} (Some (length body)) (Some parts.body_len) =
-    sym means.announced ∙ ap (λ h. body_length (request_fields h))
-    (sym (one_head text parts means.head is means.is_head))
-    ∙ ap body_length (sym is.of.1.fields) ∙ is.announced in
+pub fits : (text body : List ℕ) (len : ℕ) (m : Message) → IsAnnounced text len
+    → MeansRequest text body m → length body ≡ len
+fits text body len m is means =
+    let one_head : is.head ≡ means.head =
+    (request_unique text is.head means.head _ [] is.is_head.reads means.is_head.reads).0 in
+    let same : ◌≡◌ {A = Option ℕ} (Some (length body)) (Some len) =
+    sym means.announced ∙ ap (λ h. body_length (request_fields h)) (sym one_head)
+    ∙ is.announced in
     cc
 
-pub short : (text : List ℕ) (parts : RequestParts) → IsRequestParts text parts
-    → body_len_of parts ≤ most_body
-short text parts is = body_length-le _ _ is.announced
+pub short : (text : List ℕ) (len : ℕ) → IsAnnounced text len → len ≤ most_body
+short text len is = body_length-le _ _ is.announced
 
--- the text of the parts is a head
-pub parts-head : (text : List ℕ) (parts : RequestParts) → (is : IsRequestParts text parts)
-    → IsRequestHead text is.of.0
-parts-head text parts is =
-    let spans = parts.spans in
+-- the text of the spans is a head
+pub parsed-head : (text : List ℕ) (headers : List HeaderSpan) (spans : RequestSpans) (len : ℕ)
+    → (is : IsParsed text headers spans len) → IsRequestHead text is.of.0
+parsed-head text headers spans len is =
     let same = simp map-length at (ap length is.of.1.fields) in
     record {
       reads = (
         is.of.1.reads.0,
         is.of.1.reads.1
             ∙ ap (λ t. print_request is.of.0 ++ t)
-            (drop_all parts.spans.len text (omega (arith, is.whole))),
+            (drop_all spans.len text (omega (arith, is.whole))),
       );
       short = is.short;
-      few = omega (arith, same, length-take spans.headers parts.headers, is.room);
+      few = omega (arith, same, length-take spans.headers headers, is.room);
     }
+
+-- what the head announces
+pub parsed-announced : (text : List ℕ) (headers : List HeaderSpan) (spans : RequestSpans) (len : ℕ)
+    → IsParsed text headers spans len → IsAnnounced text len
+parsed-announced text headers spans len is = record {
+  head = is.of.0;
+  is_head = parsed-head text headers spans len is;
+  announced = ap body_length (sym is.of.1.fields) ∙ is.announced;
+}
 
 pub waits_for_head : (bytes : List ℕ) (phase : Phase) → seen Blank bytes ≡ Some phase
     → length bytes < most_head → IsWaiting IsRequestHead request_fields bytes
@@ -105,16 +109,16 @@ waits_for_head bytes phase so room = inl (
   room,
 )
 
-pub waits_for_body : (text back : List ℕ) (parts : RequestParts) → IsRequestParts text parts
-    → length back < body_len_of parts → IsWaiting IsRequestHead request_fields (text ++ back)
-waits_for_body text back parts is few = inr (record {
-  head = is.of.0;
+pub waits_for_body : (text back : List ℕ) (len : ℕ) → IsAnnounced text len → length back < len
+    → IsWaiting IsRequestHead request_fields (text ++ back)
+waits_for_body text back len is few = inr (record {
+  head = is.head;
   front = text;
   back = back;
-  len = parts.body_len;
+  len = len;
   bytes_are = refl;
-  is_head = parts-head text parts is;
-  announced = ap body_length (sym is.of.1.fields) ∙ is.announced;
+  is_head = is.is_head;
+  announced = is.announced;
   short = few;
 })
 
@@ -234,22 +238,23 @@ message-filled verb target fields body =
     ∙ ap (fit_of (percent_decode target)) (ask-filled verb fields body))
 
 -- the message of a head's parts, with its body still to come
-pub begins : (text : List ℕ) (parts : RequestParts) (m : Message) → IsRequestParts text parts
-    → m ≡ message_of (span_bytes text parts.spans.method) (span_bytes text parts.spans.path)
-    (map (header_bytes text) (take parts.spans.headers parts.headers)) []
-    → (body : List ℕ) → length body ≡ parts.body_len → MeansRequest text body (filled m body)
-begins text parts m is says body len =
+pub begins : (text : List ℕ) (headers : List HeaderSpan) (spans : RequestSpans) (len : ℕ)
+    (m : Message) → IsParsed text headers spans len
+    → m ≡ message_of (span_bytes text spans.method) (span_bytes text spans.path)
+    (map (header_bytes text) (take spans.headers headers)) []
+    → (body : List ℕ) → length body ≡ len → MeansRequest text body (filled m body)
+begins text headers spans len m is says body same_len =
     let head = is.of.0 in
     let at = is.of.1 in
-    let fields = map (header_bytes text) (take parts.spans.headers parts.headers) in
+    let fields = map (header_bytes text) (take spans.headers headers) in
     record {
       head = head;
-      is_head = parts-head text parts is;
-      announced = ap body_length (sym at.fields) ∙ is.announced ∙ ap Some (sym len);
+      is_head = parsed-head text headers spans len is;
+      announced = ap body_length (sym at.fields) ∙ is.announced ∙ ap Some (sym same_len);
       message_is =
-          ap (λ k. filled k body) says ∙ message-filled (span_bytes text parts.spans.method)
-          (span_bytes text parts.spans.path) fields body
-          ∙ ap (λ verb. message_of verb (span_bytes text parts.spans.path) fields body) at.method
+          ap (λ k. filled k body) says ∙ message-filled (span_bytes text spans.method)
+          (span_bytes text spans.path) fields body
+          ∙ ap (λ verb. message_of verb (span_bytes text spans.path) fields body) at.method
           ∙ ap (λ target. message_of head.method target fields body) at.path
           ∙ ap (λ fs. message_of head.method head.target fs body) at.fields;
     }

@@ -1,31 +1,44 @@
 //! Requests as a kind of messages.
-ghost use Rattle.std.specs.Prelude.{◌≡◌, length};
+ghost use Rattle.std.specs.Prelude.{◌≡◌, ◌≤◌, ℕ, List, length, IfSome, IsNone};
+ghost use Rattle.asp_messages.specs.declared.request.Message.{Message as AnyMessage};
 ghost use Rattle.asp_messages.specs.Fields.{request_fields};
-ghost use Rattle.asp_messages.specs.Head.{IsRequestHead};
+ghost use Rattle.asp_messages.specs.Head.{IsRequestHead, most_head};
 ghost use Rattle.asp_messages.specs.Stream.{IsWaiting};
-ghost use Rattle.request_reader.specs.Requests.{IsRequestParts, body_len_of, MeansRequest, filled, filled_ask};
+ghost use Rattle.request_reader.specs.Requests.{IsAnnounced, IsParsed, MeansRequest, filled, filled_ask};
 ghost use Rattle.request_reader.specs.RequestLaws.{ends, fits, short, waits_for_head, waits_for_body};
 
-use crate::parts::RequestParts;
 use crate::request::message;
-use asp_base::{Bytes, NoMemory};
+use asp_base::Bytes;
 use asp_messages::{Ask, Message, Request};
 use httparse::Status;
-use httparse::spans::{EMPTY_HEADER_SPAN, parse_request};
-use message_framing::{MessageKind, body_length};
-use std::alloc::Global;
+use httparse::spans::{EMPTY_HEADER_SPAN, HeaderSpan, RequestSpans, parse_request};
+use message_framing::{Begun, MessageKind, body_length};
 
 /// Requests.
 pub struct Requests;
 
-impl MessageKind for Requests {
-    type Parts = RequestParts;
+/// Where a head that ends with the text has its parts, and the length of the body that it
+/// announces, in bytes. `None` where no message begins with the text.
+fn parse(text: &[u8], headers: &mut [HeaderSpan; 64]) -> Option<(RequestSpans, u64)>
+    requires { length text.now ≤ most_head }
+    ensures head { IfSome result (λ r. IsParsed text.now headers.new r.0 r.1) }
+    ensures none { IsNone result → (body : List ℕ) (m : AnyMessage) → MeansRequest text.now body m
+        → ⊥ }
+{
+    let Ok(Status::Complete(spans)) = parse_request(text, headers) else {
+        return None;
+    };
+    if spans.len != text.len() {
+        return None;
+    }
+    let body_len = body_length(text, &headers[..spans.headers])?;
+    Some((spans, body_len))
+}
 
+impl MessageKind for Requests {
     type Message = Message;
 
-    ghost IsHead = { IsRequestParts };
-
-    ghost announced = { body_len_of };
+    ghost IsHead = { IsAnnounced };
 
     ghost Means = { MeansRequest };
 
@@ -43,36 +56,19 @@ impl MessageKind for Requests {
 
     ghost waits_for_body = { waits_for_body };
 
-    fn parse(text: &[u8]) -> Option<RequestParts> {
+    fn begin(room: Vec<u8>, text: &[u8]) -> Option<Begun<Message>> {
         let mut headers = [EMPTY_HEADER_SPAN; 64];
-        let Ok(Status::Complete(spans)) = parse_request(text, &mut headers) else {
-            return None;
-        };
-        if spans.len != text.len() {
-            return None;
-        }
-        let body_len = body_length(text, &headers[..spans.headers])?;
-        Some(RequestParts {
-            headers,
-            spans,
+        let (spans, body_len) = parse(text, &mut headers)?;
+        Some(Begun {
+            message: message(
+                room,
+                spans.method.of(text),
+                spans.path.of(text),
+                text,
+                &headers[..spans.headers],
+            ),
             body_len,
         })
-    }
-
-    fn body_len(parts: &RequestParts) -> u64 {
-        parts.body_len
-    }
-
-    fn begin(alloc: Global, text: &[u8], parts: &RequestParts) -> Result<Message, NoMemory> {
-        let spans = parts.spans;
-        message(
-            alloc,
-            spans.method.of(text),
-            spans.path.of(text),
-            text,
-            &parts.headers[..spans.headers],
-            &[],
-        )
     }
 
     fn fill(message: Message, body: Bytes) -> Message {

@@ -1,10 +1,11 @@
 //! The message that a request's head and body spell.
-ghost use Rattle.std.specs.Prelude.{◌≡◌, length, map, All, IfOk};
+ghost use Rattle.std.specs.Prelude.{◌≡◌, ◌≤◌, [], length, map, All, vec_capacity};
+ghost use Rattle.percent_encoding.specs.Percent as percent;
 ghost use Rattle.httparse.specs.Spans.{IsHeaderWithin, header_bytes};
 ghost use Rattle.asp_messages.specs.RequestSpelling as spelling;
 ghost use Rattle.message_framing.specs.Standings.{standing_of};
 
-use asp_base::{Bytes, NoMemory, same_name};
+use asp_base::{Bytes, same_name};
 use asp_messages::{Ask, MOST_COOKIE, MOST_KEY, MOST_MINUTES, Message, Request, named};
 use httparse::spans::HeaderSpan;
 use message_framing::{Standing, find_field, lock_cookie, number_needed, number_or};
@@ -13,6 +14,19 @@ use std::alloc::Global;
 
 /// How long an item lives whose write says no timeout, in minutes.
 const DEFAULT_MINUTES: u64 = 20;
+
+/// The target without its escapes, in the room that is there for it.
+fn decoded(room: Vec<u8>, target: &[u8]) -> Vec<u8>
+    requires empty { room.items ≡ [] }
+    requires room { length target.now ≤ vec_capacity room }
+    ensures { result.items ≡ percent.percent_decode target.now }
+{
+    let mut key = room;
+    match percent_decode(target).append_to(&mut key) {
+        Ok(()) => key,
+        Err(_) => key,
+    }
+}
 
 fn release_ask(cookie: Option<u64>) -> Option<Ask>
     ensures { result ≡ spelling.release_ask cookie }
@@ -43,26 +57,23 @@ fn get_ask(exclusive: Standing, cookie: Option<u64>) -> Option<Ask>
     }
 }
 
+/// A write without its body.
 fn put_ask(
     alloc: Global,
-    body: &[u8],
     minutes: Option<u64>,
     flag: Option<u64>,
     cookie: Option<u64>,
-) -> Result<Option<Ask>, NoMemory>
-    ensures { IfOk result (λ ask. ask ≡ spelling.put_ask body.now minutes flag cookie) }
+) -> Option<Ask>
+    ensures { result ≡ spelling.put_ask [] minutes flag cookie }
 {
     match (minutes, flag, cookie) {
-        (Some(minutes), Some(flag), Some(cookie)) => {
-            let body = Bytes::copy(alloc, body)?;
-            Ok(Some(Ask::Write {
-                body,
-                minutes,
-                fresh: flag == 1,
-                cookie: named(cookie),
-            }))
-        }
-        _ => Ok(None),
+        (Some(minutes), Some(flag), Some(cookie)) => Some(Ask::Write {
+            body: Bytes::adopt(Vec::new(alloc)),
+            minutes,
+            fresh: flag == 1,
+            cookie: named(cookie),
+        }),
+        _ => None,
     }
 }
 
@@ -75,67 +86,63 @@ fn delete_ask(cookie: Option<u64>) -> Option<Ask>
     })
 }
 
-/// What the verb asks. The fields are those of the head that lies in `buf`.
+/// What the verb asks, without a body. The fields are those of the head that lies in `buf`. It
+/// takes no memory.
 #[tactic(auto, unfolding(asp_messages::specs::RequestSpelling::ask_of))]
-fn ask(
-    alloc: Global,
-    verb: &[u8],
-    buf: &[u8],
-    headers: &[HeaderSpan],
-    body: &[u8],
-) -> Result<Option<Ask>, NoMemory>
+fn ask(alloc: Global, verb: &[u8], buf: &[u8], headers: &[HeaderSpan]) -> Option<Ask>
     requires { All (IsHeaderWithin (length buf.now)) headers.now }
-    ensures { IfOk result (λ ask. ask ≡ spelling.ask_of verb.now
-        (map (header_bytes buf.now) headers.now) body.now) }
+    ensures { result ≡ spelling.ask_of verb.now (map (header_bytes buf.now) headers.now) [] }
 {
     if verb == b"GET".as_slice() {
         let cookie = number_needed(MOST_COOKIE, find_field(buf, headers, b"LockCookie"));
-        return Ok(get_ask(find_field(buf, headers, b"Exclusive"), cookie));
+        return get_ask(find_field(buf, headers, b"Exclusive"), cookie);
     }
     if verb == b"PUT".as_slice() {
         let minutes = find_field(buf, headers, b"Timeout");
         let flag = find_field(buf, headers, b"ExtraFlags");
         return put_ask(
             alloc,
-            body,
             number_or(DEFAULT_MINUTES, 1, MOST_MINUTES, minutes),
             number_or(0, 0, 1, flag),
             lock_cookie(buf, headers),
         );
     }
     if verb == b"DELETE".as_slice() {
-        return Ok(delete_ask(lock_cookie(buf, headers)));
+        return delete_ask(lock_cookie(buf, headers));
     }
     if verb == b"HEAD".as_slice() {
-        return Ok(Some(Ask::Reset));
+        return Some(Ask::Reset);
     }
-    Ok(None)
+    None
 }
 
-/// The message of a head's verb, target and fields, which lie in `buf`, and of the body behind it.
+/// The message of a head's verb, target and fields, which lie in `buf`, with its body still to be
+/// filled in. The key is put into `room`, which is empty and has room for it; no other memory is
+/// taken.
 #[tactic(auto, unfolding(asp_messages::specs::RequestSpelling::message_of))]
 pub fn message(
-    alloc: Global,
+    room: Vec<u8>,
     verb: &[u8],
     target: &[u8],
     buf: &[u8],
     headers: &[HeaderSpan],
-    body: &[u8],
-) -> Result<Message, NoMemory>
-    requires { All (IsHeaderWithin (length buf.now)) headers.now }
-    ensures { IfOk result (λ m. m ≡ spelling.message_of verb.now target.now
-        (map (header_bytes buf.now) headers.now) body.now) }
+) -> Message
+    requires fields { All (IsHeaderWithin (length buf.now)) headers.now }
+    requires empty { room.items ≡ [] }
+    requires room { length target.now ≤ vec_capacity room }
+    ensures { result ≡ spelling.message_of verb.now target.now
+        (map (header_bytes buf.now) headers.now) [] }
 {
-    let mut key = Vec::new(alloc);
-    percent_decode(target).append_to(&mut key)?;
+    let alloc = *room.allocator();
+    let key = decoded(room, target);
     if key.is_empty() || key.len() > MOST_KEY {
-        return Ok(Message::Unfit);
+        return Message::Unfit;
     }
-    match ask(alloc, verb, buf, headers, body)? {
-        Some(ask) => Ok(Message::Fit(Request {
+    match ask(alloc, verb, buf, headers) {
+        Some(ask) => Message::Fit(Request {
             key: Bytes::adopt(key),
             ask,
-        })),
-        None => Ok(Message::Unfit),
+        }),
+        None => Message::Unfit,
     }
 }

@@ -1,4 +1,4 @@
-use Rattle.std.proofs.Common.{◌≡◌, inr, sym, ap, subst, ◌∙◌, take, drop, refl, take-append-drop, ◌++◌}
+use Rattle.std.proofs.Common.{◌≡◌, inr, sym, subst, take, drop, refl, take-append-drop}
 use Rattle.asp_messages.specs.Stream.{IsHopeless}
 use Rattle.message_framing.specs.Framed.{Framed}
 use Rattle.message_framing.proofs.ReaderLemmas.{unread-hopeless}
@@ -11,11 +11,9 @@ returns-in-None-clause-hopeless g c = λ _.
     let kind = g.K.MessageKind in
     let laws = g.met.K.MessageKind in
     let stands = rw c.in-Ended.is at c.requires.stands in
-    let text : c.deref.result.now ≡ take n held = c.deref.ensures.value
-    ∙ c.in_ok-extend_from_slice.ensures.items
-    ∙ ap (λ t. t ++ c.front.result.now) c.in_ok-text.ensures.items ∙ c.front.ensures.bytes in
+    let text : c.front.result.now ≡ take n held = c.front.ensures.bytes in
     let none = c.in-None.ensures.none refl in
     rw c.in-Ended.is (inr (subst (IsHopeless (Framed kind.Means)) (take-append-drop n held)
-    (unread-hopeless kind.IsHead kind.announced kind.Means laws.ends laws.fits (take n held)
+    (unread-hopeless kind.IsHead kind.Means kind.filled laws.ends laws.fits (take n held)
     (drop n held) stands.ends (λ body m means. none body m
     (subst (λ t. kind.Means t body m) (sym text) means)))))

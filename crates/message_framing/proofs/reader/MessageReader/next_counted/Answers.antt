@@ -1,7 +1,7 @@
-use Rattle.std.proofs.Common.{◌≡◌, ◌⊎◌, inl, inr, sym, ap, subst, ◌∙◌, arith, append_assoc, [], length, ◌++◌, Bool, true, false, IsTrue}
+use Rattle.std.proofs.Common.{◌≡◌, ◌⊎◌, inl, inr, sym, ap, subst, ◌∙◌, arith, length, Bool, true, false, IsTrue}
 use Rattle.asp_messages.specs.Stream.{HasNoMessage, IsHopeless}
 use Rattle.message_framing.specs.Held.{Reading}
-use Rattle.message_framing.specs.Framed.{Framed, SpendsWithin, text_of, spent_of, is_broken_state}
+use Rattle.message_framing.specs.Framed.{Framed, SpendsWithin, spent_of, is_broken_state}
 use Rattle.message_framing.proofs.ReaderLemmas.{stands-spent, if-found, is-false, either-way}
 use Rattle.message_framing.proofs.reader.MessageReader.next_counted.Goals as goal
 
@@ -12,9 +12,8 @@ returns-then-matches-clause-none_whole g c = λ is.
     let whole : is_broken_state c.read.new.state ≡ false =
     is-false (is_broken_state c.read.new.state)
     (λ broken. let clash = sym is ∙ (c.give-found.ensures.stays broken).0 in cc) in
-    let bytes : text_of c.read.new.state ++ c.read.new.held ≡ c.args.self.now.bytes.held =
-    c.in-Ok.ensures.same whole ∙ ap (λ t. t ++ held) c.look.ensures.text
-    ∙ ap (λ (r : Reading). r.bytes.held) c.self.view_is in
+    let bytes : c.read.new.held ≡ c.args.self.now.bytes.held =
+    c.in-Ok.ensures.same whole ∙ ap (λ (r : Reading). r.bytes.held) c.self.view_is in
     subst (HasNoMessage (Framed kind.Means)) bytes (c.give-found.ensures.none_whole is)
 
 pub returns-then-matches-clause-hopeless : goal.returns-then-matches-clause-hopeless
@@ -23,8 +22,8 @@ returns-then-matches-clause-hopeless g c = λ is.
     let held = c.self.inside.held in
     let answer : Type 0 = (IsTrue c.args.self.now.bytes.is_broken)
     ⊎ IsHopeless (Framed kind.Means) c.args.self.now.bytes.held in
-    let first : text_of c.look.new.state ++ held ≡ c.args.self.now.bytes.held =
-    ap (λ t. t ++ held) c.look.ensures.text ∙ ap (λ (r : Reading). r.bytes.held) c.self.view_is in
+    let first : held ≡ c.args.self.now.bytes.held =
+    ap (λ (r : Reading). r.bytes.held) c.self.view_is in
     either-way (is_broken_state c.read.new.state) answer
     (λ broken. elim (c.in-Ok.ensures.hopeless broken) as (λ _. answer) [
       | inl was ↦ inl (ap (λ (r : Reading). r.bytes.is_broken) (sym c.self.view_is)
@@ -44,8 +43,7 @@ returns-then-matches-clause-spent g c =
     let spends : SpendsWithin c.args.self.now
     (record {
       bytes = record {
-        held = text_of c.give-found.new.state
-            ++ c.give-found.new.held;
+        held = c.give-found.new.held;
         is_broken = is_broken_state c.give-found.new.state;
         may_feed =
             true;
@@ -53,14 +51,13 @@ returns-then-matches-clause-spent g c =
       spent = spent_of c.give-found.new.state;
     }) =
     record {
-      held = λ whole. stands-spent kind.IsHead c.give-found.new.state c.give-found.new.held
+      held = λ whole. stands-spent kind.IsHead kind.Means kind.filled c.give-found.new.state c.give-found.new.held
           c.give-found.ensures.stands whole;
       broke = λ whole _.
           let whole_then : is_broken_state c.look.new.state ≡ false = c.look.ensures.broken
           ∙ ap (λ (r : Reading). r.bytes.is_broken) c.self.view_is ∙ whole in
-          let bytes : text_of c.look.new.state ++ c.self.inside.held ≡ c.args.self.now.bytes.held =
-          ap (λ t. t ++ c.self.inside.held) c.look.ensures.text
-          ∙ ap (λ (r : Reading). r.bytes.held) c.self.view_is in
+          let bytes : c.self.inside.held ≡ c.args.self.now.bytes.held =
+          ap (λ (r : Reading). r.bytes.held) c.self.view_is in
           omega (
             arith,
             c.give-found.ensures.less,
@@ -86,26 +83,21 @@ pub returns-else-matches-clause-message : goal.returns-else-matches-clause-messa
 returns-else-matches-clause-message g c =
     let kind = g.K.MessageKind in
     let held = c.self.inside.held in
-    let first : text_of c.look.new.state ++ held ≡ c.args.self.now.bytes.held =
-    ap (λ t. t ++ held) c.look.ensures.text ∙ ap (λ (r : Reading). r.bytes.held) c.self.view_is in
+    let first : held ≡ c.args.self.now.bytes.held =
+    ap (λ (r : Reading). r.bytes.held) c.self.view_is in
     let spent_first : spent_of c.self.inside.state ≡ c.args.self.now.spent =
     ap (λ (r : Reading). r.spent) c.self.view_is in
     if-found c.give-found.result _ _ c.give-found.ensures.message (λ m found.
     let gives = found.0 in
-    let body = gives.body in
-    let text = text_of c.read.new.state in
-    let text_new : text_of c.give-found.new.state ≡ [] = ap text_of found.1 in
     let looked_whole : is_broken_state c.look.new.state ≡ false =
     is-false (is_broken_state c.look.new.state)
     (λ broken. let clash : ◌≡◌ {A = Bool} false true = sym gives.whole
     ∙ ap is_broken_state (c.read.ensures.stays broken).1 ∙ broken in cc) in
     record {
-      text = text;
-      body = body;
+      text = gives.text;
+      body = gives.body;
       means = gives.means;
-      held = sym (c.in-Ok.ensures.same gives.whole ∙ first) ∙ ap (λ t. text ++ t) gives.held
-          ∙ sym (append_assoc text body c.give-found.new.held)
-          ∙ ap (λ t. (text ++ body) ++ (t ++ c.give-found.new.held)) (sym text_new);
+      held = sym (c.in-Ok.ensures.same gives.whole ∙ first) ∙ gives.held;
       whole = ap is_broken_state found.1 ∙ sym looked_whole ∙ c.look.ensures.broken
           ∙ ap (λ (r : Reading). r.bytes.is_broken) c.self.view_is;
       counted = omega (
