@@ -197,10 +197,7 @@ impl<'a> Door for Clients<'a> {
 
     ghost has_room = { λ _. ⊤ };
 
-    fn next<R: Wait>(
-        &mut self,
-        _rt: &R,
-    ) -> Result<Option<Conn<Sending<'a>, Hearing<'a>>>, Failed> {
+    fn next<R: Wait>(&mut self, _rt: &R) -> Result<Option<Conn<Sending<'a>, Hearing<'a>>>, Failed> {
         Ok(self.coming.pop())
     }
 

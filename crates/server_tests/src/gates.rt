@@ -1,7 +1,7 @@
 //! Shards are served at once: no lock stands round the store, and no thread serves all workers.
 ghost use Rattle.std.specs.Prelude.{◌≡◌, All, None, length, IfOk};
 
-use crate::memory::{DONE, Served, joined, keepers, worker};
+use crate::memory::{DONE, MemoryWorker, joined, keepers, worker};
 use asp_base::Gate;
 use std::alloc::Global;
 use std::str;
@@ -46,7 +46,7 @@ impl Gate for Meeting {
 }
 
 /// Eight workers, of which each writes an item of its own: `/a` to `/h`, whose shards differ.
-fn eight_workers(alloc: Global) -> Result<Vec<Served>, Fail>
+fn eight_workers(alloc: Global) -> Result<Vec<MemoryWorker>, Fail>
     ensures { IfOk result (λ v. (length v.items ≡ 8) × All (λ w. w.pass ≡ None) v.items) }
 {
     let mut workers = Vec::new(alloc);
@@ -67,7 +67,13 @@ fn shards_are_served_at_once(rt: HostRuntime) -> Result<(), Fail> {
         gave_up: AtomicBool::new(false),
     };
     let mut workers = eight_workers(alloc)?;
-    let served = serve_all(&rt, alloc, keepers(alloc, 8)?, workers.as_mut_slice(), &gate);
+    let served = serve_all(
+        &rt,
+        alloc,
+        keepers(alloc, 8)?,
+        workers.as_mut_slice(),
+        &gate,
+    );
     assert_eq!(rt; served.status, 0);
     assert!(rt; !gate.gave_up.load(Ordering::SeqCst));
     assert_eq!(rt; gate.seen.load(Ordering::SeqCst), ALL_SHARDS);

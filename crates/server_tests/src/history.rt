@@ -234,7 +234,13 @@ fn twenty_connections_on_one_key_are_one_legal_history(rt: HostRuntime) -> Resul
     let alloc = rt.alloc();
     let (first, second) = (nexts_of(alloc, EACH)?, nexts_of(alloc, EACH)?);
     let mut workers = workers_of(alloc, &first, &second)?;
-    let served = serve_all(&rt, alloc, keepers(alloc, 1)?, workers.as_mut_slice(), &OpenGate);
+    let served = serve_all(
+        &rt,
+        alloc,
+        keepers(alloc, 1)?,
+        workers.as_mut_slice(),
+        &OpenGate,
+    );
     assert_eq!(rt; served.status, 0);
     let second = work_of(alloc, workers.pop(), 1)?;
     let first = work_of(alloc, workers.pop(), 0)?;
@@ -244,11 +250,20 @@ fn twenty_connections_on_one_key_are_one_legal_history(rt: HostRuntime) -> Resul
     let status = run_replay(alloc, 1 << 40, &mut input, &mut output);
     let mut want = Vec::from_slice(alloc, b"legal ")?;
     assert!(rt; push_number(&mut want, entries).is_ok() && push(&mut want, b"\n").is_ok());
-    assert_eq!(rt; str::from_utf8(output.taken()), str::from_utf8(want.as_slice()));
+    assert_eq!(rt;
+        str::from_utf8(output.taken()),
+        str::from_utf8(want.as_slice())
+    );
     assert_eq!(rt; status, 0);
     let Some(store) = served.store else {
         return Err("no store".into());
     };
     // Twenty clients, and five additions for each.
-    find_all(&rt, alloc, &store, served.passes, &[(b'a', Some(&[100]), entries)])
+    find_all(
+        &rt,
+        alloc,
+        &store,
+        served.passes,
+        &[(b'a', Some(&[100]), entries)],
+    )
 }

@@ -17,7 +17,7 @@ pub const BAD: &str = "HTTP/1.1 400 Bad Request\r\nContent-Length: 0\r\n\r\n";
 pub const MISSING: &str = "HTTP/1.1 404 Not Found\r\nContent-Length: 0\r\n\r\n";
 
 /// A worker over a door in memory.
-pub type Served = Worker<MemoryDoor, ListClock, MapKeeper>;
+pub type MemoryWorker = Worker<MemoryDoor, ListClock, MapKeeper>;
 
 /// The texts, one behind the other.
 pub fn joined(alloc: Global, texts: &[&str]) -> Result<Vec<u8>, Fail> {
@@ -75,7 +75,7 @@ pub fn keepers(alloc: Global, shards: u64) -> Result<Vec<MapKeeper>, AllocError>
 
 /// A worker whose door has one connection, which sends the text, and fails the listed calls of
 /// `next`. Its clock gives 0.
-pub fn worker(alloc: Global, text: Vec<u8>, fails: &[u64]) -> Result<Served, Fail>
+pub fn worker(alloc: Global, text: Vec<u8>, fails: &[u64]) -> Result<MemoryWorker, Fail>
     ensures { IfOk result (λ w. w.pass ≡ None) }
 {
     let input = source(alloc, text, 16_384, &[])?;

@@ -2,7 +2,7 @@
 ghost use Rattle.std.specs.Prelude.{◌≡◌, ◌≤◌, All, None, length, IfOk};
 ghost use Rattle.state_store.specs.Passes.{IsPassOf};
 
-use crate::memory::{DONE, Served, joined, keepers, worker};
+use crate::memory::{DONE, MemoryWorker, joined, keepers, worker};
 use asp_base::{Bytes, OpenGate};
 use asp_messages::{Ask, Reply, Request};
 use keeper::MapKeeper;
@@ -67,7 +67,7 @@ fn words_of(alloc: Global, text: &str) -> Result<Vec<String>, Fail> {
 }
 
 /// Two workers with a connection each, of which the one writes `/b` and the other `/d`.
-fn two_workers(alloc: Global, fails: &[u64]) -> Result<Vec<Served>, Fail>
+fn two_workers(alloc: Global, fails: &[u64]) -> Result<Vec<MemoryWorker>, Fail>
     ensures { IfOk result (λ v. (length v.items ≡ 2) × All (λ w. w.pass ≡ None) v.items) }
 {
     let b = joined(alloc, &["PUT /b HTTP/1.1\r\nContent-Length: 1\r\n\r\nx"])?;
@@ -78,7 +78,7 @@ fn two_workers(alloc: Global, fails: &[u64]) -> Result<Vec<Served>, Fail>
 }
 
 /// Whether the worker's door has so many connections back, each closed and answered `Done`.
-fn has_served(worker: &Served, connections: usize) -> bool {
+fn has_served(worker: &MemoryWorker, connections: usize) -> bool {
     let given = worker.door.given_back();
     given.len() == connections
         && given.iter().all(|given| {
@@ -141,7 +141,14 @@ fn two_workers_serve_one_store(rt: HostRuntime) -> Result<(), Fail> {
     for case in CASES.iter() {
         let mut workers = two_workers(alloc, case.fails)?;
         let keepers = keepers(alloc, case.shards.clamp(1, 64))?;
-        let served = serve(&rt, alloc, &words, keepers, workers.as_mut_slice(), &OpenGate);
+        let served = serve(
+            &rt,
+            alloc,
+            &words,
+            keepers,
+            workers.as_mut_slice(),
+            &OpenGate,
+        );
         assert_eq!(rt; served.status, case.status);
         assert_eq!(rt; workers.len(), 2);
         assert!(rt; has_served(&workers[0], 1 - case.fails.len().min(1)));
@@ -161,14 +168,28 @@ fn other_words_leave_the_doors_alone(rt: HostRuntime) -> Result<(), Fail> {
     let text = joined(alloc, &["PUT /b HTTP/1.1\r\nContent-Length: 1\r\n\r\nx"])?;
     let mut workers = vec![in alloc; worker(alloc, text, &[])?]?;
     let words = words_of(alloc, "serve 42424 2 1")?;
-    let refused = serve(&rt, alloc, &words, keepers(alloc, 1)?, workers.as_mut_slice(), &OpenGate);
+    let refused = serve(
+        &rt,
+        alloc,
+        &words,
+        keepers(alloc, 1)?,
+        workers.as_mut_slice(),
+        &OpenGate,
+    );
     assert_eq!(rt; refused.status, 2);
     assert!(rt; refused.store.is_none());
     assert!(rt; refused.passes.is_empty());
     assert_eq!(rt; workers.len(), 1);
     assert!(rt; has_served(&workers[0], 0));
     let words = words_of(alloc, "serve 42424 1 1")?;
-    let served = serve(&rt, alloc, &words, keepers(alloc, 1)?, workers.as_mut_slice(), &OpenGate);
+    let served = serve(
+        &rt,
+        alloc,
+        &words,
+        keepers(alloc, 1)?,
+        workers.as_mut_slice(),
+        &OpenGate,
+    );
     assert_eq!(rt; served.status, 0);
     assert_eq!(rt; workers.len(), 1);
     assert!(rt; has_served(&workers[0], 1));

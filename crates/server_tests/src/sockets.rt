@@ -19,7 +19,9 @@ use stream_server::{Served, TcpDoor, Worker, serve_all};
 use visit_core::{Ending, Limits, Need, Outcome, Visit};
 
 /// A listener on a port of the machine itself that was free, and the port.
-fn listen<R: Net<Listener = TcpListener, Stream = TcpStream>>(rt: &R) -> Result<(TcpListener, u16), Fail> {
+fn listen<R: Net<Listener = TcpListener, Stream = TcpStream>>(
+    rt: &R,
+) -> Result<(TcpListener, u16), Fail> {
     let listener = TcpListener::bind(rt, SocketAddr::from((Ipv4Addr::LOCALHOST, 0)))?;
     let port = listener.local_addr()?.port();
     Ok((listener, port))
@@ -46,8 +48,7 @@ fn talk<R: Net<Stream = TcpStream>>(
     port: u16,
     sent: &[u8],
 ) -> Option<(Vec<u8>, TcpStream)> {
-    let mut stream =
-        TcpStream::connect(rt, SocketAddr::from((Ipv4Addr::LOCALHOST, port))).ok()?;
+    let mut stream = TcpStream::connect(rt, SocketAddr::from((Ipv4Addr::LOCALHOST, port))).ok()?;
     stream.write_all(sent).ok()?;
     let mut got = Vec::new(alloc);
     let mut buf = [0u8; 4_096];
@@ -128,16 +129,26 @@ fn pages_visit_the_server(rt: HostRuntime) -> Result<(), Fail> {
     let Some(store) = served.store else {
         return Err("no store".into());
     };
-    find_all(&rt, alloc, &store, served.passes, &[(b's', Some(b"page"), 6)])
+    find_all(
+        &rt,
+        alloc,
+        &store,
+        served.passes,
+        &[(b's', Some(b"page"), 6)],
+    )
 }
 
 #[test]
 fn the_clock_of_the_host_is_that_of_the_machine(rt: HostRuntime) -> Result<(), Fail> {
-    let before = SystemTime::now(&rt)?.duration_since(SystemTime::UNIX_EPOCH)?.as_millis();
+    let before = SystemTime::now(&rt)?
+        .duration_since(SystemTime::UNIX_EPOCH)?
+        .as_millis();
     let first = HostClock.now(&rt);
     sleep(&rt, Duration::from_millis(20));
     let second = HostClock.now(&rt);
-    let after = SystemTime::now(&rt)?.duration_since(SystemTime::UNIX_EPOCH)?.as_millis();
+    let after = SystemTime::now(&rt)?
+        .duration_since(SystemTime::UNIX_EPOCH)?
+        .as_millis();
     assert!(rt; before <= u128::from(first));
     assert!(rt; first < second);
     assert!(rt; u128::from(second) <= after);

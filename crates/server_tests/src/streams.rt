@@ -23,7 +23,8 @@ const RELEASE_OF_NONE: &str = "GET /a HTTP/1.1\r\nExclusive: release\r\n\r\n";
 
 const CUT_SHORT: &str = "PUT /a HTTP/1.1\r\nContent-Length: 5\r\n\r\nab";
 
-const TOO_LONG: &str = "PUT /a HTTP/1.1\r\nContent-Length: 4194305\r\n\r\nabGET /a HTTP/1.1\r\n\r\n";
+const TOO_LONG: &str =
+    "PUT /a HTTP/1.1\r\nContent-Length: 4194305\r\n\r\nabGET /a HTTP/1.1\r\n\r\n";
 
 const FOUND: &str = "HTTP/1.1 200 OK\r\nTimeout: 20\r\nContent-Length: 1\r\n\r\nx";
 
@@ -123,7 +124,7 @@ const CASES: [Case; 14] = [
         end: StreamEnd::ReadFault,
         ..WHOLE
     },
-    // The sink fails at the second reply, at its third byte, and at once; the request has its place.
+    // The sink fails at the second reply, inside it, and at once; the request has its place.
     Case {
         sent: &[WRITE, READ],
         write_fails: &[1],
@@ -173,7 +174,12 @@ const CASES: [Case; 14] = [
 ];
 
 /// Serves the case's stream over a new store of 8 shards.
-fn check<R: Abort + Wait + HostTime>(rt: &R, alloc: Global, at: usize, case: &Case) -> Result<(), Fail> {
+fn check<R: Abort + Wait + HostTime>(
+    rt: &R,
+    alloc: Global,
+    at: usize,
+    case: &Case,
+) -> Result<(), Fail> {
     let fresh = Store::new(rt, alloc, keepers(alloc, 8)?, 1, LAST_COOKIE, 0)?;
     let FreshStore { store, mut roll } = fresh;
     let mut pass = store.pass(rt, alloc, &mut roll)?;
@@ -182,7 +188,14 @@ fn check<R: Abort + Wait + HostTime>(rt: &R, alloc: Global, at: usize, case: &Ca
     let mut output = sink(alloc, 1_024, case.taken, case.write_fails)?;
     let mut clock = clock(alloc, &[0, 5_000, 1_000])?;
     let end = serve_stream(
-        rt, alloc, &store, &mut pass, &mut input, &mut output, &mut clock, &OpenGate,
+        rt,
+        alloc,
+        &store,
+        &mut pass,
+        &mut input,
+        &mut output,
+        &mut clock,
+        &OpenGate,
     );
     assert_eq!(rt; end, case.end, "case {at}");
     let mut written = joined(alloc, case.written)?;
@@ -236,7 +249,14 @@ fn check_cut<R: Abort + Wait + HostTime>(rt: &R, alloc: Global, piece: u64) -> R
     let mut output = sink(alloc, 65_536, piece, &[])?;
     let mut clock = clock(alloc, &[])?;
     let end = serve_stream(
-        rt, alloc, &store, &mut pass, &mut input, &mut output, &mut clock, &OpenGate,
+        rt,
+        alloc,
+        &store,
+        &mut pass,
+        &mut input,
+        &mut output,
+        &mut clock,
+        &OpenGate,
     );
     assert_eq!(rt; end, StreamEnd::Broken, "at {piece}");
     assert!(rt; output.taken() == want.as_slice(), "at {piece}");
