@@ -259,11 +259,7 @@ fn twenty_connections_on_one_key_are_one_legal_history(rt: HostRuntime) -> Resul
         return Err("no store".into());
     };
     // Twenty clients, and five additions for each.
-    find_all(
-        &rt,
-        alloc,
-        &store,
-        served.passes,
-        &[(b'a', Some(&[100]), entries)],
-    )
+    let found = [(b'a', Some([100].as_slice()), entries)];
+    find_all(&rt, alloc, &store, served.passes, &found).ok_or("no pass")?;
+    Ok(())
 }

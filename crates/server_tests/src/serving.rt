@@ -1,5 +1,5 @@
 //! Workers that serve by the words of a command line.
-ghost use Rattle.std.specs.Prelude.{◌≡◌, ◌≤◌, All, None, length, IfOk};
+ghost use Rattle.std.specs.Prelude.{◌≡◌, ◌≤◌, ◌⊎◌, All, None, length, IfOk, IsTrue};
 ghost use Rattle.state_store.specs.Passes.{IsPassOf};
 
 use crate::memory::{DONE, MemoryWorker, joined, keepers, worker};
@@ -86,21 +86,19 @@ fn has_served(worker: &MemoryWorker, connections: usize) -> bool {
         })
 }
 
-/// Reads the item under the letter, and finds what is wanted.
+/// Reads the item under the letter, and finds what is wanted. `None` is want of memory.
 fn find<R: Abort + Wait>(
     rt: &R,
     alloc: Global,
     store: &Store<MapKeeper>,
     pass: &mut Pass<MapKeeper>,
     found: &Found,
-) -> Result<(), Fail>
+) -> Option<()>
     requires { IsPassOf store.now pass.old }
     ensures { IsPassOf store.now pass.new }
 {
     let (letter, content, place) = *found;
-    let Ok(key) = Bytes::copy(alloc, &[b'/', letter]) else {
-        return Err("no memory".into());
-    };
+    let key = Bytes::copy(alloc, &[b'/', letter]).ok()?;
     let request = Request {
         key,
         ask: Ask::Read,
@@ -111,27 +109,32 @@ fn find<R: Abort + Wait>(
         (Reply::Found { body, .. }, Some(content)) => assert!(rt; body.as_slice() == content),
         (reply, _) => assert!(rt; *reply == Reply::Missing && content.is_none(), "{letter}"),
     }
-    Ok(())
+    Some(())
 }
 
-/// Finds all that is wanted, under one of the passes.
+/// Finds all that is wanted, under one of the passes. `None` where there is no pass or no memory.
 pub fn find_all<R: Abort + Wait>(
     rt: &R,
     alloc: Global,
     store: &Store<MapKeeper>,
     passes: Vec<Pass<MapKeeper>>,
     found: &[Found],
-) -> Result<(), Fail>
+) -> Option<()>
     requires { All (IsPassOf store.now) passes.items }
 {
     let mut passes = passes;
-    let Some(mut pass) = passes.pop() else {
-        return Err("no pass".into());
-    };
+    let mut pass = passes.pop()?;
     for found in found {
         find(rt, alloc, store, &mut pass, found)?;
     }
-    Ok(())
+    Some(())
+}
+
+/// Whether the status is that of workers that served.
+fn have_served(status: u8) -> bool
+    ensures { IsTrue result → (status ≡ 0) ⊎ (status ≡ 9) }
+{
+    status == 0 || status == 9
 }
 
 #[test]
@@ -150,6 +153,7 @@ fn two_workers_serve_one_store(rt: HostRuntime) -> Result<(), Fail> {
             &OpenGate,
         );
         assert_eq!(rt; served.status, case.status);
+        assert!(rt; have_served(served.status));
         assert_eq!(rt; workers.len(), 2);
         assert!(rt; has_served(&workers[0], 1 - case.fails.len().min(1)));
         assert!(rt; has_served(&workers[1], 1));
@@ -157,7 +161,7 @@ fn two_workers_serve_one_store(rt: HostRuntime) -> Result<(), Fail> {
         let Some(store) = served.store else {
             return Err("no store".into());
         };
-        find_all(&rt, alloc, &store, served.passes, case.found)?;
+        find_all(&rt, alloc, &store, served.passes, case.found).ok_or("no pass")?;
     }
     Ok(())
 }

@@ -1,21 +1,20 @@
 //! The server over sockets, with one worker.
-ghost use Rattle.std.specs.Prelude.{◌≤◌, IfSome};
 ghost use Rattle.visit_core.specs.Terms.{EndingFits};
 
 use crate::memory::{BAD, DONE, joined, keepers};
-use crate::serving::find_all;
+use crate::serving::{Found, find_all};
 use asp_base::{Bytes, Clock, HostClock, OpenGate};
-use keeper::MapKeeper;
 use page_link::{TcpLink, VisitEnd, run_visit};
 use std::alloc::Global;
 use std::io::{Read, Write};
 use std::net::{Ipv4Addr, Net, SocketAddr, TcpListener, TcpStream};
+use std::process::Abort;
 use std::rt::Clock as HostTime;
 use std::sync::Wait;
 use std::test::Fail;
 use std::thread::{Threads, join, sleep};
 use std::time::{Duration, SystemTime};
-use stream_server::{Served, TcpDoor, Worker, serve_all};
+use stream_server::{TcpDoor, Worker, serve_all};
 use visit_core::{Ending, Limits, Need, Outcome, Visit};
 
 /// A listener on a port of the machine itself that was free, and the port.
@@ -27,17 +26,22 @@ fn listen<R: Net<Listener = TcpListener, Stream = TcpStream>>(
     Ok((listener, port))
 }
 
-/// One worker serves so many connections of the listener.
-fn serve_some<R: Threads + Wait + HostTime + Sync>(
+/// One worker serves so many connections of the listener, and the store is found so. `None` is want
+/// of memory.
+fn serve_some<R: Abort + Threads + Wait + HostTime + Sync>(
     rt: &R,
     alloc: Global,
     listener: &TcpListener,
     connections: u64,
-) -> Option<Served<MapKeeper>> {
+    found: &[Found],
+) -> Option<()> {
     let worker = Worker::new(TcpDoor::new(listener, connections), HostClock);
     let mut workers = vec![in alloc; worker].ok()?;
     let keepers = keepers(alloc, 8).ok()?;
-    Some(serve_all(rt, alloc, keepers, workers.as_mut_slice(), &OpenGate))
+    let served = serve_all(rt, alloc, keepers, workers.as_mut_slice(), &OpenGate);
+    assert_eq!(rt; served.status, 0);
+    let store = served.store?;
+    find_all(rt, alloc, &store, served.passes, found)
 }
 
 /// Sends the bytes and reads until the peer has ended its side; the connection stays open. `None`
@@ -62,30 +66,30 @@ fn talk<R: Net<Stream = TcpStream>>(
     None
 }
 
-/// How much follows the message that can be none.
-const REST: usize = 1_000_000;
+/// How long the content is that is too long, in bytes.
+const CONTENT: usize = 5_000_000;
 
 #[test]
 fn the_last_reply_reaches_a_peer_that_sends_more_and_stays(rt: HostRuntime) -> Result<(), Fail> {
     let alloc = rt.alloc();
     let (listener, port) = listen(&rt)?;
     let good = "PUT /a HTTP/1.1\r\nContent-Length: 1\r\n\r\nx";
-    let broken = "PUT /a HTTP/1.1\r\nContent-Length: 4194305\r\n\r\n";
+    let broken = "PUT /a HTTP/1.1\r\nContent-Length: 5000000\r\n\r\n";
     let mut sent = joined(alloc, &[good, broken])?;
-    sent.resize(sent.len().min(100) + REST, b'y')?;
+    sent.resize(sent.len().min(100) + CONTENT, b'y')?;
+    let found = [(b'a', Some(b"x".as_slice()), 2)];
     let (served, got) = join(
         &rt,
-        || serve_some(&rt, alloc, &listener, 1),
+        || serve_some(&rt, alloc, &listener, 1, &found),
         || talk(&rt, alloc, port, &sent),
     );
-    let served = served.ok_or("no memory")?;
-    assert_eq!(rt; served.status, 0);
+    served.ok_or("no memory")?;
     let (got, _open) = got.ok_or("a reset")?;
     assert!(rt; got.as_slice() == joined(alloc, &[DONE, BAD])?.as_slice());
     Ok(())
 }
 
-/// The limits of a module that nobody set otherwise.
+/// An exclusive page of `/s`. `None` is want of memory, or a refused connection.
 fn visit_of<R: Net<Stream = TcpStream> + Wait + HostTime>(
     rt: &R,
     alloc: Global,
@@ -117,25 +121,17 @@ fn two_visits<R: Net<Stream = TcpStream> + Wait + HostTime>(
 fn pages_visit_the_server(rt: HostRuntime) -> Result<(), Fail> {
     let alloc = rt.alloc();
     let (listener, port) = listen(&rt)?;
+    // Two requests of each page, and a look of the worker after each.
+    let found = [(b's', Some(b"page".as_slice()), 6)];
     let (served, ends) = join(
         &rt,
-        || serve_some(&rt, alloc, &listener, 2),
+        || serve_some(&rt, alloc, &listener, 2, &found),
         || two_visits(&rt, alloc, port),
     );
-    let served = served.ok_or("no memory")?;
-    assert_eq!(rt; served.status, 0);
+    served.ok_or("no memory")?;
     let done = VisitEnd::Over(Outcome::Done);
     assert_eq!(rt; ends, Some((done, done)));
-    let Some(store) = served.store else {
-        return Err("no store".into());
-    };
-    find_all(
-        &rt,
-        alloc,
-        &store,
-        served.passes,
-        &[(b's', Some(b"page"), 6)],
-    )
+    Ok(())
 }
 
 #[test]
