@@ -10,11 +10,14 @@ use std::net::{Shutdown, TcpListener, TcpStream};
 use std::sync::Wait;
 use std::time::Duration;
 
-/// How often bytes that still come are read and dropped when a connection is closed.
-const MOST_DROPPED: u32 = 1_000;
+/// How many bytes that still come one read drops at most when a connection is closed.
+const DROPPED_AT_ONCE: usize = 65_536;
 
-/// How long the peer is waited for at most when a connection is closed, in milliseconds a read.
-const CLOSING_TIME: u64 = 1_000;
+/// How many such reads there are at most.
+const MOST_READS: u32 = 150;
+
+/// How long one of them waits at most, in milliseconds: closing takes no longer than 30 s.
+const CLOSING_TIME: u64 = 200;
 
 /// A door over a listener, which workers share. It ends after so many connections, and tells none.
 /// It tries again after an accept that was interrupted or whose connection was aborted, and counts
@@ -58,16 +61,19 @@ fn accept(listener: &TcpListener) -> Option<TcpStream> {
     None
 }
 
-/// Ends what is sent, and drops what the peer still sends, up to a bound: a socket that is closed
-/// with bytes unread resets the connection, and what was written last may never reach the peer.
+/// Ends what is sent, and drops what the peer still sends, until it ends or sends nothing for a
+/// while, up to a bound: a socket that is closed with bytes unread resets the connection, and what
+/// was written last may never reach the peer.
 fn close(socket: &TcpStream) {
-    if socket.shutdown(Shutdown::Write).is_err() {
+    let waiting = Duration::from_millis(CLOSING_TIME);
+    if socket.shutdown(Shutdown::Write).is_err()
+        || socket.set_read_timeout(Some(waiting)).is_err()
+    {
         return;
     }
-    let _ = socket.set_read_timeout(Some(Duration::from_millis(CLOSING_TIME)));
-    let mut buf = [0u8; 4096];
+    let mut buf = [0u8; DROPPED_AT_ONCE];
     let mut reader = socket;
-    for _ in 0..MOST_DROPPED {
+    for _ in 0..MOST_READS {
         match reader.read(&mut buf) {
             Ok(0) => return,
             Ok(_) => {}

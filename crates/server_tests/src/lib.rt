@@ -1,0 +1,18 @@
+//! The server whole: streams, doors and workers over one store, in memory and over sockets. The
+//! crate has tests alone.
+#![tactic(auto)]
+
+#[cfg(test)]
+mod clients;
+#[cfg(test)]
+mod gates;
+#[cfg(test)]
+mod history;
+#[cfg(test)]
+mod memory;
+#[cfg(test)]
+mod serving;
+#[cfg(test)]
+mod sockets;
+#[cfg(test)]
+mod streams;

@@ -1,0 +1,201 @@
+//! Workers that serve by the words of a command line.
+ghost use Rattle.std.specs.Prelude.{◌≡◌, ◌≤◌, ◌⊎◌, All, None, length, IfOk, IsTrue};
+ghost use Rattle.state_store.specs.Passes.{IsPassOf};
+
+use crate::memory::{DONE, MemoryWorker, joined, keepers, worker};
+use asp_base::{Bytes, OpenGate};
+use asp_messages::{Ask, Reply, Request};
+use keeper::MapKeeper;
+use serve_command::serve;
+use state_store::{Pass, Store};
+use std::alloc::Global;
+use std::process::Abort;
+use std::sync::Wait;
+use std::test::Fail;
+use stream_server::StreamEnd;
+
+/// What is found under a letter: the content, or nothing, and how many entries the history of its
+/// shard had.
+pub type Found = (u8, Option<&'static [u8]>, u64);
+
+/// How many shards there are, which calls of the first door fail, the status, and what is found.
+struct Case {
+    shards: u64,
+    fails: &'static [u64],
+    status: u8,
+    found: &'static [Found],
+}
+
+const CASES: [Case; 3] = [
+    // A write in each of two shards, and two sweeps, which look once in each shard.
+    Case {
+        shards: 8,
+        fails: &[],
+        status: 0,
+        found: &[
+            (b'a', None, 2),
+            (b'b', Some(b"x"), 3),
+            (b'c', None, 2),
+            (b'd', Some(b"y"), 3),
+            (b'e', None, 2),
+            (b'f', None, 2),
+            (b'g', None, 2),
+            (b'h', None, 2),
+        ],
+    },
+    // The first door fails, and the other worker serves.
+    Case {
+        shards: 8,
+        fails: &[0],
+        status: 9,
+        found: &[(b'a', None, 1), (b'b', None, 1), (b'd', Some(b"y"), 2)],
+    },
+    Case {
+        shards: 1,
+        fails: &[],
+        status: 0,
+        found: &[(b'b', Some(b"x"), 4), (b'd', Some(b"y"), 5)],
+    },
+];
+
+fn words_of(alloc: Global, text: &str) -> Result<Vec<String>, Fail> {
+    let mut words = Vec::new(alloc);
+    for word in text.split(' ') {
+        words.push(String::from_str(alloc, word)?)?;
+    }
+    Ok(words)
+}
+
+/// Two workers with a connection each, of which the one writes `/b` and the other `/d`.
+fn two_workers(alloc: Global, fails: &[u64]) -> Result<Vec<MemoryWorker>, Fail>
+    ensures { IfOk result (λ v. (length v.items ≡ 2) × All (λ w. w.pass ≡ None) v.items) }
+{
+    let b = joined(alloc, &["PUT /b HTTP/1.1\r\nContent-Length: 1\r\n\r\nx"])?;
+    let d = joined(alloc, &["PUT /d HTTP/1.1\r\nContent-Length: 1\r\n\r\ny"])?;
+    let first = worker(alloc, b, fails)?;
+    let second = worker(alloc, d, &[])?;
+    Ok(vec![in alloc; first, second]?)
+}
+
+/// Whether the worker's door has so many connections back, each closed and answered `Done`.
+fn has_served(worker: &MemoryWorker, connections: usize) -> bool {
+    let given = worker.door.given_back();
+    given.len() == connections
+        && given.iter().all(|given| {
+            given.end == StreamEnd::Closed && given.conn.output.taken() == DONE.as_bytes()
+        })
+}
+
+/// Reads the item under the letter, and finds what is wanted. `None` is want of memory.
+fn find<R: Abort + Wait>(
+    rt: &R,
+    alloc: Global,
+    store: &Store<MapKeeper>,
+    pass: &mut Pass<MapKeeper>,
+    found: &Found,
+) -> Option<()>
+    requires { IsPassOf store.now pass.old }
+    ensures { IsPassOf store.now pass.new }
+{
+    let (letter, content, place) = *found;
+    let key = Bytes::copy(alloc, &[b'/', letter]).ok()?;
+    let request = Request {
+        key,
+        ask: Ask::Read,
+    };
+    let answer = store.ask(rt, pass, request, 0, &OpenGate);
+    assert_eq!(rt; answer.place, Some(place), "{letter}");
+    match (&answer.reply, content) {
+        (Reply::Found { body, .. }, Some(content)) => assert!(rt; body.as_slice() == content),
+        (reply, _) => assert!(rt; *reply == Reply::Missing && content.is_none(), "{letter}"),
+    }
+    Some(())
+}
+
+/// Finds all that is wanted, under one of the passes. `None` where there is no pass or no memory.
+pub fn find_all<R: Abort + Wait>(
+    rt: &R,
+    alloc: Global,
+    store: &Store<MapKeeper>,
+    passes: Vec<Pass<MapKeeper>>,
+    found: &[Found],
+) -> Option<()>
+    requires { All (IsPassOf store.now) passes.items }
+{
+    let mut passes = passes;
+    let mut pass = passes.pop()?;
+    for found in found {
+        find(rt, alloc, store, &mut pass, found)?;
+    }
+    Some(())
+}
+
+/// Whether the status is that of workers that served.
+fn have_served(status: u8) -> bool
+    ensures { IsTrue result → (status ≡ 0) ⊎ (status ≡ 9) }
+{
+    status == 0 || status == 9
+}
+
+#[test]
+fn two_workers_serve_one_store(rt: HostRuntime) -> Result<(), Fail> {
+    let alloc = rt.alloc();
+    let words = words_of(alloc, "serve 42424 2 1")?;
+    for case in CASES.iter() {
+        let mut workers = two_workers(alloc, case.fails)?;
+        let keepers = keepers(alloc, case.shards.clamp(1, 64))?;
+        let served = serve(
+            &rt,
+            alloc,
+            &words,
+            keepers,
+            workers.as_mut_slice(),
+            &OpenGate,
+        );
+        assert_eq!(rt; served.status, case.status);
+        assert!(rt; have_served(served.status));
+        assert_eq!(rt; workers.len(), 2);
+        assert!(rt; has_served(&workers[0], 1 - case.fails.len().min(1)));
+        assert!(rt; has_served(&workers[1], 1));
+        assert_eq!(rt; served.passes.len(), 2);
+        let Some(store) = served.store else {
+            return Err("no store".into());
+        };
+        find_all(&rt, alloc, &store, served.passes, case.found).ok_or("no pass")?;
+    }
+    Ok(())
+}
+
+#[test]
+fn other_words_leave_the_doors_alone(rt: HostRuntime) -> Result<(), Fail> {
+    let alloc = rt.alloc();
+    let text = joined(alloc, &["PUT /b HTTP/1.1\r\nContent-Length: 1\r\n\r\nx"])?;
+    let mut workers = vec![in alloc; worker(alloc, text, &[])?]?;
+    let words = words_of(alloc, "serve 42424 2 1")?;
+    let refused = serve(
+        &rt,
+        alloc,
+        &words,
+        keepers(alloc, 1)?,
+        workers.as_mut_slice(),
+        &OpenGate,
+    );
+    assert_eq!(rt; refused.status, 2);
+    assert!(rt; refused.store.is_none());
+    assert!(rt; refused.passes.is_empty());
+    assert_eq!(rt; workers.len(), 1);
+    assert!(rt; has_served(&workers[0], 0));
+    let words = words_of(alloc, "serve 42424 1 1")?;
+    let served = serve(
+        &rt,
+        alloc,
+        &words,
+        keepers(alloc, 1)?,
+        workers.as_mut_slice(),
+        &OpenGate,
+    );
+    assert_eq!(rt; served.status, 0);
+    assert_eq!(rt; workers.len(), 1);
+    assert!(rt; has_served(&workers[0], 1));
+    Ok(())
+}
