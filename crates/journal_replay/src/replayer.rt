@@ -67,7 +67,7 @@ impl Consumer for Replayer {
 
     ghost gave = { Gave };
 
-    ghost breaks = { λ more verdict first now. Breaks verdict };
+    ghost breaks = { λ broken first now. Breaks broken.over };
 
     ghost closes = { Closes };
 

@@ -67,7 +67,7 @@ module _ {K : Type 0} (G : keepers.Ghosts K) (most : ℕ) (first now : Responder
   broken_whole : (input whole last : List ℕ) (all : List Message)
       → Closes G verdicts.Broken first now input whole last
       ⊎ ((front : List ℕ) × (behind : List ℕ) × (more : Bool) × (input ≡ front ++ behind)
-      × Breaks G more verdicts.Broken first now front whole last)
+      × IsTrue more × Breaks G verdicts.Broken first now front whole last)
       → Spelled SpellsRequest input all [] → ⊥
   broken_whole input whole last all (inl (closing, (rest, some, none, has))) spelled =
       let left = left_whole input [] rest whole all has

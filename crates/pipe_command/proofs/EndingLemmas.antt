@@ -138,7 +138,8 @@ module _ {K : Type 0} (G : keepers.Ghosts K) where
     went = Went G;
     waits = Waits;
     gave = Gave G;
-    breaks = Breaks G;
+    breaks = λ broken first now bytes whole last. IsTrue broken.more
+        × Breaks G broken.over first now bytes whole last;
     closes = Closes G;
     lacks = Lacks G;
     work = λ now. length now.stream.reader.held + unbegun now.is_begun;
@@ -154,7 +155,7 @@ module _ {K : Type 0} (G : keepers.Ghosts K) where
     over_keeps verdicts.Whole bytes whole last (inl (closes, end, some)) = ([], whole, closes.1)
     over_keeps verdicts.Broken bytes whole last (inl (closes, end, some)) =
         (closes.1.0, whole, closes.1.3)
-    over_keeps verdicts.Whole bytes whole last (inr (more, breaks, room)) = absurd breaks
+    over_keeps verdicts.Whole bytes whole last (inr (more, breaks, room)) = absurd breaks.1
     over_keeps verdicts.Broken bytes whole last (inr (more, breaks, room)) =
         (breaks.2.0, whole, breaks.2.2)
 
@@ -253,7 +254,7 @@ module _ {K : Type 0} (G : keepers.Ghosts K) where
           some,
           subst (Takes f.sink f.sink') (ap (λ l. whole ++ l) closes.0 ∙ append-nil whole) wrote,
         )
-    over_run verdicts.Whole ended whole last (inr (more, breaks, room)) wrote = absurd breaks
+    over_run verdicts.Whole ended whole last (inr (more, breaks, room)) wrote = absurd breaks.1
     over_run verdicts.Broken ended whole last over wrote =
         broken_run (ends.Over verdicts.Broken) ended whole last (Takes f.sink f.sink')
         (λ rest stops closed. (stops, closed)) over wrote
@@ -268,7 +269,7 @@ module _ {K : Type 0} (G : keepers.Ghosts K) where
     part_run ended whole last n (inl (verdicts.Whole, inl (closes, at_end, some))) long le wrote =
         absurd (none_long last closes.0 long)
     part_run ended whole last n (inl (verdicts.Whole, inr (more, breaks, room))) long le wrote =
-        absurd breaks
+        absurd breaks.1
     part_run ended whole last n (inl (verdicts.Broken, over)) long le wrote =
         broken_run ends.WriteFault ended whole last (TakesFront f.sink f.sink')
         (λ rest stops closed. inr (stops, closed)) over

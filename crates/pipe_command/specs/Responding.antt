@@ -76,11 +76,9 @@ module _ {K : Type 0} (G : Ghosts K) where
       (rest : List ℕ) × HasAnswered first now bytes rest (whole ++ last)
 
   -- the rest can become no message
-  abbrev pub Breaks : Bool → Verdict → Responder K → Responder K → List ℕ → List ℕ → List ℕ
-      → Type 0
-  Breaks more Whole first now bytes whole last = ⊥
-  Breaks more Broken first now bytes whole last = IsTrue more
-      × (last ≡ closing (output_of first.pipe.journal))
+  abbrev pub Breaks : Verdict → Responder K → Responder K → List ℕ → List ℕ → List ℕ → Type 0
+  Breaks Whole first now bytes whole last = ⊥
+  Breaks Broken first now bytes whole last = (last ≡ closing (output_of first.pipe.journal))
       × ((rest : List ℕ) × IsHopeless SpellsRequest rest × HasAnswered first now bytes rest whole)
 
   -- the input ended behind a message, or inside one

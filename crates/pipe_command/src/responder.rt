@@ -220,7 +220,7 @@ impl<K: Keeper> Responder<K> {
 }
 
 impl<K: Keeper> Consumer for Responder<K> {
-    ghost use Rattle.std.specs.Prelude.{◌+◌, length};
+    ghost use Rattle.std.specs.Prelude.{◌+◌, length, IsTrue};
     ghost use Rattle.pipe_command.specs.Giving.{given_body, given_head};
     ghost use Rattle.pipe_command.specs.Responding.{Breaks, Closes, Gave, Lacks, Waits, Went, unbegun};
 
@@ -232,7 +232,8 @@ impl<K: Keeper> Consumer for Responder<K> {
 
     ghost gave = { Gave ⟦<K as Keeper>⟧ };
 
-    ghost breaks = { Breaks ⟦<K as Keeper>⟧ };
+    ghost breaks = { λ broken first now bytes whole last. IsTrue broken.more
+        × Breaks ⟦<K as Keeper>⟧ broken.over first now bytes whole last };
 
     ghost closes = { Closes ⟦<K as Keeper>⟧ };
 

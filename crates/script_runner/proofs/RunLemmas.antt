@@ -161,7 +161,8 @@ module _ {K : Type 0} (G : keepers.Ghosts K) where
     went = Went G;
     waits = Waits;
     gave = Gave G;
-    breaks = Breaks G;
+    breaks = λ broken first now bytes whole last. (last ≡ []) × KeepsFloor G first now
+        × Breaks G broken.more broken.over now bytes whole;
     closes = Closes G;
     lacks = Lacks G;
     work = λ now. length now.held;
@@ -189,7 +190,7 @@ module _ {K : Type 0} (G : keepers.Ghosts K) where
         × KeepsFloor G first now
     over_keeps verdicts.Whole bytes whole last (inl (closes, end, some)) = (closes.0, closes.1)
     over_keeps verdicts.Broken bytes whole last (inl (closes, end, some)) = (closes.0, closes.1)
-    over_keeps verdicts.Whole bytes whole last (inr (more, breaks, room)) = absurd breaks
+    over_keeps verdicts.Whole bytes whole last (inr (more, breaks, room)) = absurd breaks.2
     over_keeps verdicts.Broken bytes whole last (inr (more, breaks, room)) = (breaks.0, breaks.1)
 
     part_keeps : (bytes whole last : List ℕ)
@@ -284,7 +285,7 @@ module _ {K : Type 0} (G : keepers.Ghosts K) where
               whole_only sink sink' whole last
                   closes.0 wrote,
             )
-        over_drive verdicts.Whole ended whole last (inr (more, breaks, room)) wrote = absurd breaks
+        over_drive verdicts.Whole ended whole last (inr (more, breaks, room)) wrote = absurd breaks.2
         over_drive verdicts.Broken ended whole last (inr (more, breaks, room)) wrote = of breaks.2.1
           where
             of : BeginsWrong breaks.2.0.world now.held

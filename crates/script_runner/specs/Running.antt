@@ -53,12 +53,11 @@ module _ {K : Type 0} (G : Ghosts K) where
       × KeepsFloor first now
 
   -- the line that is held first is none, or too long
-  abbrev pub Breaks : Bool → Verdict → Driver K → Driver K → List ℕ → List ℕ → List ℕ → Type 0
-  Breaks more Whole first now bytes whole last = ⊥
-  Breaks more Broken first now bytes whole last = (last ≡ []) × KeepsFloor first now
-      × ((run : HasRun now.script bytes now.held whole)
+  abbrev pub Breaks : Bool → Verdict → Driver K → List ℕ → List ℕ → Type 0
+  Breaks more Whole now bytes whole = ⊥
+  Breaks more Broken now bytes whole = (run : HasRun now.script bytes now.held whole)
       × (BeginsWrong run.world now.held
-      ⊎ (HasNo 10 now.held × (most_line < length now.held) × IsTrue more)))
+      ⊎ (HasNo 10 now.held × (most_line < length now.held) × IsTrue more))
 
   -- the input ended behind a line, or inside one
   abbrev pub Closes : Verdict → Driver K → Driver K → List ℕ → List ℕ → List ℕ → Type 0

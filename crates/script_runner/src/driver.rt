@@ -19,8 +19,8 @@ pub struct Driver<K> {
 }
 
 impl<K: Keeper> Consumer for Driver<K> {
-    ghost use Rattle.std.specs.Prelude.{length, []};
-    ghost use Rattle.script_runner.specs.Running.{Went, Waits, Gave, Breaks, Closes, Lacks};
+    ghost use Rattle.std.specs.Prelude.{◌≡◌, length, []};
+    ghost use Rattle.script_runner.specs.Running.{KeepsFloor, Went, Waits, Gave, Breaks, Closes, Lacks};
 
     type Over = Verdict;
 
@@ -30,7 +30,9 @@ impl<K: Keeper> Consumer for Driver<K> {
 
     ghost gave = { Gave ⟦<K as Keeper>⟧ };
 
-    ghost breaks = { Breaks ⟦<K as Keeper>⟧ };
+    ghost breaks = { λ broken first now bytes whole last. (last ≡ [])
+        × KeepsFloor ⟦<K as Keeper>⟧ first now
+        × Breaks ⟦<K as Keeper>⟧ broken.more broken.over now bytes whole };
 
     ghost closes = { Closes ⟦<K as Keeper>⟧ };
 

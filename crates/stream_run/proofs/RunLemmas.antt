@@ -137,7 +137,7 @@ module _ {C V : Type 0} (G : Ghosts C V) (most : ℕ) (first : C) where
     pub ended-stopped : (now' : C) (sink'' : Option (List ℕ)) (end : End V)
         → ((start : Option (List ℕ))
         → Follows G.went now (λ first taken due. Takes start f.sink' due
-        → StopsAs (λ over. G.breaks (nat_lt 0 left) over first now' taken)
+        → StopsAs (λ over. G.breaks (record { more = nat_lt 0 left; over = over }) first now' taken)
         (G.gave first now' taken)
         (G.lacks first now' taken) end start sink''))
         → Ended G most first now' (record f { sink' = sink'' }) end
@@ -146,7 +146,7 @@ module _ {C V : Type 0} (G : Ghosts C V) (most : ℕ) (first : C) where
       given = run.given;
       within = omega (arith, run.left_is);
       ends = ends_of now' end (record f { sink' = sink'' }) run.taken
-          (stops_as (λ over. G.breaks (nat_lt 0 left) over first now' run.taken)
+          (stops_as (λ over. G.breaks (record { more = nat_lt 0 left; over = over }) first now' run.taken)
           (IsOver G most first now' f.source' run.taken) (G.gave first now' run.taken)
           (G.lacks first now' run.taken) end f.sink sink''
           (λ over whole last is.
@@ -221,7 +221,7 @@ module _ {C V : Type 0} (G : Ghosts C V) (most : ℕ) (first now : C) where
       is : IsOver G most first now f.source' run.taken over run.ends.0 run.ends.1
           → G.closes over first now old.1 run.ends.0 run.ends.1
           ⊎ ((front : List ℕ) × (behind : List ℕ) × (more : Bool) × (old.1 ≡ front ++ behind)
-          × G.breaks more over first now front run.ends.0 run.ends.1)
+          × G.breaks (record { more = more; over = over }) first now front run.ends.0 run.ends.1)
       is (inl (closes, at_end, some)) =
           inl (subst (λ t. G.closes over first now t run.ends.0 run.ends.1)
           (sym (given.1 ∙ ap (λ t. run.taken ++ t) (subst IsAtEnd is_new at_end)

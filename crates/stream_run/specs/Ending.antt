@@ -30,7 +30,8 @@ module _ {C V : Type 0} (G : Ghosts C V) (most : ℕ) (first now : C) where
   abbrev pub IsOver : Option (List ℕ × List ℕ) → List ℕ → V → List ℕ → List ℕ → Type 0
   IsOver source' taken over whole last =
       (G.closes over first now taken whole last × IsAtEnd source' × (length taken < most))
-      ⊎ ((more : Bool) × G.breaks more over first now taken whole last
+      ⊎ ((more : Bool) × G.breaks (record { more = more; over = over }) first now taken whole
+      last
       × HasRoom more (length taken) most)
 
   -- What holds at each ending, of the source and the sink after it, and of the bytes that were
@@ -66,7 +67,7 @@ module _ {C V : Type 0} (G : Ghosts C V) (first now : C) (f : Flow) where
   IsComplete (ends.Over over) input = (whole : List ℕ) × (last : List ℕ)
       × (G.closes over first now input whole last
       ⊎ ((front : List ℕ) × (behind : List ℕ) × (more : Bool) × (input ≡ front ++ behind)
-      × G.breaks more over first now front whole last))
+      × G.breaks (record { more = more; over = over }) first now front whole last))
       × Takes f.sink f.sink' (whole ++ last)
   IsComplete ends.NoMemory input = ⊤
   IsComplete ends.ReadFault input = ⊥

@@ -1,5 +1,5 @@
 -- What is said of a consumer at each call.
-use Rattle.std.specs.Prelude.{ℕ, ◌+◌, ◌≤◌, ◌^◌, List, length, ⊤}
+use Rattle.std.specs.Prelude.{Bool, ℕ, ◌+◌, ◌≤◌, ◌^◌, List, length, ⊤}
 use Rattle.stream_run.specs.declared.consumer.Step.{Step}
 use Rattle.stream_run.specs.declared.consumer.Step.TheVariants as steps
 
@@ -18,6 +18,11 @@ module _ {C : Type 0} (Went : C → C → List ℕ → List ℕ → Type 0) wher
   abbrev pub IsShort : C → ℕ → Type 0
   IsShort now count = (first : C) × (taken : List ℕ) × (due : List ℕ) × Went first now taken due
       × (length taken + count ≤ 2 ^ 40)
+
+-- What a consumer found where it is over whatever follows, and whether it might have been fed more.
+pub record Broken (V : Type 0) : Type 0 where
+  pub more : Bool
+  pub over : V
 
 -- a fact of how a consumer is over
 abbrev pub IfOver : {V : Type 0} → Step V → (V → Type 0) → Type 0

@@ -1,6 +1,6 @@
 //! What takes the bytes of an input, and gives those of an output.
 ghost use Rattle.std.specs.Prelude.{◌≡◌, ◌+◌, ◌<◌, ◌≤◌, ◌++◌, ℕ, Bool, List, length, true, OnOk, OnErr, IfOk};
-ghost use Rattle.stream_run.specs.Feeding.{Follows, IsShort, IfOver, most_piece};
+ghost use Rattle.stream_run.specs.Feeding.{Broken, Follows, IsShort, IfOver, most_piece};
 
 use crate::Status;
 use asp_base::NoMemory;
@@ -39,9 +39,8 @@ pub trait Consumer {
     /// It was fed the first bytes, gave the second before, and the third last.
     ghost gave: { Self → Self → List ℕ → List ℕ → List ℕ → Type 0 };
 
-    /// The same, and it is over so, whatever follows; the truth is whether it might have been fed
-    /// more.
-    ghost breaks: { Bool → Self.Over → Self → Self → List ℕ → List ℕ → List ℕ → Type 0 };
+    /// The same, and it is over so, whatever follows.
+    ghost breaks: { Broken Self.Over → Self → Self → List ℕ → List ℕ → List ℕ → Type 0 };
 
     /// The same, and it is over so where no bytes follow.
     ghost closes: { Self.Over → Self → Self → List ℕ → List ℕ → List ℕ → Type 0 };
@@ -80,7 +79,8 @@ pub trait Consumer {
         ensures waits { result ≡ Step.More → waits more self.new }
         ensures over { IfOver result (λ over. Follows went self.old
             (λ first taken due.
-            breaks more over first self.new taken due (head self.new ++ body self.new))) }
+            breaks (record { more = more; over = over }) first self.new taken due
+            (head self.new ++ body self.new))) }
         ensures no_memory { result ≡ Step.NoMemory → Follows went self.old
             (λ first taken due. lacks first self.new taken due) };
 

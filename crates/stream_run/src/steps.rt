@@ -24,7 +24,7 @@ pub fn work_off<C: Consumer, T: Sink>(
     ensures waits { result ≡ None → C.waits more consumer.new }
     ensures ends { IfSome result (λ end. (start : Option (List ℕ)) → Follows C.went consumer.old
         (λ first taken due. Takes start (T.taken sink.old) due
-        → StopsAs (λ over. C.breaks more over first consumer.new taken)
+        → StopsAs (λ over. C.breaks (record { more = more; over = over }) first consumer.new taken)
         (C.gave first consumer.new taken) (C.lacks first consumer.new taken)
         end start (T.taken sink.new))) }
     ensures read { result ≡ Some End.ReadFault → ⊥ }
