@@ -1,6 +1,6 @@
 -- A run of whole messages, where nothing fails, answers them all.
 use Rattle.std.proofs.Common.{◌≡◌, ℕ, List, [], ◌∷◌, ◌++◌, length, Option, Some, None, refl, sym, ap, ◌∙◌, arith, subst, inl, inr, append_assoc, append-nil, length-append}
-use Rattle.std.specs.Prelude.{◌⊎◌, ◌≢◌, Bool}
+use Rattle.std.specs.Prelude.{◌⊎◌, ◌≢◌, Bool, IsTrue}
 use Rattle.asp_messages.specs.declared.request.Message.{Message}
 use Rattle.asp_messages.specs.RequestSpelling.{SpellsRequest}
 use Rattle.asp_messages.specs.Stream.{Spelled, HasNoMessage, IsHopeless}
@@ -67,14 +67,14 @@ module _ {K : Type 0} (G : keepers.Ghosts K) (most : ℕ) (first now : Responder
   broken_whole : (input whole last : List ℕ) (all : List Message)
       → Closes G verdicts.Broken first now input whole last
       ⊎ ((front : List ℕ) × (behind : List ℕ) × (more : Bool) × (input ≡ front ++ behind)
-      × IsTrue more × Breaks G verdicts.Broken first now front whole last)
+      × (IsTrue more × Breaks G verdicts.Broken first now front whole last))
       → Spelled SpellsRequest input all [] → ⊥
   broken_whole input whole last all (inl (closing, (rest, some, none, has))) spelled =
       let left = left_whole input [] rest whole all has
       (subst (λ t. Spelled SpellsRequest t all []) (sym (append-nil input)) spelled) in
       ended_whole rest left.0 some none left.1
   broken_whole input whole last all (inr (front, behind, more, is, breaks)) spelled =
-      let (is_more, closing, (rest, hopeless, has)) = breaks in
+      let (is_more, (closing, (rest, hopeless, has))) = breaks in
       let left = left_whole front behind rest whole all has
       (subst (λ t. Spelled SpellsRequest t all []) is spelled) in
       hopeless_whole rest behind left.0 hopeless left.1

@@ -157,7 +157,7 @@ module _ {K : Type 0} (G : keepers.Ghosts K) where
         (closes.1.0, whole, closes.1.3)
     over_keeps verdicts.Whole bytes whole last (inr (more, breaks, room)) = absurd breaks.1
     over_keeps verdicts.Broken bytes whole last (inr (more, breaks, room)) =
-        (breaks.2.0, whole, breaks.2.2)
+        (breaks.1.1.0, whole, breaks.1.1.2)
 
     part_keeps : (bytes whole last : List ℕ)
         → ((verdict : Verdict) × IsOver ghosts most first now f.source' bytes verdict whole last)
@@ -234,7 +234,7 @@ module _ {K : Type 0} (G : keepers.Ghosts K) where
             (how rest ((more, inr at_end), none, some)
             (subst (λ l. Wrote (whole ++ l)) (closing_is last is) wrote))
         broken_run (inr (more, breaks, room)) wrote =
-            let (is_more, is, (rest, hopeless, has)) = breaks in
+            let (is_more, (is, (rest, hopeless, has))) = breaks in
             by_run end ended rest whole has
             (how rest (
               (hopeless_some rest hopeless, inl hopeless),

@@ -60,12 +60,14 @@ returns-in-More-clause-waits g c = λ is.
 pub returns-else-not-more-clause-over : goal.returns-else-not-more-clause-over
 returns-else-not-more-clause-over g c = λ first taken due went. (
   search rules,
-  c.give_closing.ensures.given ∙ ap (λ (p : Pipe). closing (output_of p.journal)) went.2.pipe,
-  step_breaks g.K.Keeper first c.args.self.now c.give_closing.new.self taken due
-      (ap (λ (r : Responder _). r.pipe) c.give_closing.ensures.same)
-      (ap (λ (r : Responder _). r.desk) c.give_closing.ensures.same)
-      (ap (λ (r : Responder _). r.clock) c.give_closing.ensures.same) went
-      (c.in-Broken.ensures.hopeless refl) (search rules),
+  (
+    c.give_closing.ensures.given ∙ ap (λ (p : Pipe). closing (output_of p.journal)) went.2.pipe,
+    step_breaks g.K.Keeper first c.args.self.now c.give_closing.new.self taken due
+        (ap (λ (r : Responder _). r.pipe) c.give_closing.ensures.same)
+        (ap (λ (r : Responder _). r.desk) c.give_closing.ensures.same)
+        (ap (λ (r : Responder _). r.clock) c.give_closing.ensures.same) went
+        (c.in-Broken.ensures.hopeless refl) (search rules),
+  ),
 )
 
 pub returns-in-NoMemory-clause-no_memory : goal.returns-in-NoMemory-clause-no_memory
