@@ -18,7 +18,7 @@ use Rattle.visit_core.specs.Terms.{Terms, EndingFits}
 use Rattle.page_script.specs.declared.line.Line.{Line}
 use Rattle.page_script.specs.declared.line.Line.TheVariants as lines
 use Rattle.page_script.specs.Lines.{LineFits}
-use Rattle.page_script.specs.World.{Page, Turn, World, history, entry_of, event_of, Performs, with_events, new_page, WorldStep, Leads, IsWorldRun, turns_of, is_heard, IsLawfulWorld, ForcesOldLocks}
+use Rattle.page_script.specs.World.{Page, Turn, World, Added, history, entry_of, event_of, Performs, with_events, new_page, WorldStep, Leads, IsWorldRun, turns_of, is_heard, IsLawfulWorld, ForcesOldLocks}
 use Rattle.page_script.proofs.StepLemmas.{turns_of-own, end-no_run, last-no_run, loss-no_run}
 use Rattle.page_script.proofs.PlaceLemmas.{All-append, All-more, turns_of-none, turns_of-other}
 use Rattle.page_script.proofs.WorldLemmas.{asked-own}
@@ -205,12 +205,11 @@ unchanged-sound number turns page events asked no_event no_turn sound = record {
 
 -- a page that acts stays sound
 acts-sound : (action : Action) (t number : ℕ) (turns : List Turn) (page : Page)
-    (events : List Event) (asked : List Turn) (words : List ℕ)
-    → act_of page.terms page.past t ≡ action
-    → Performs action t number page.ending turns events asked words → IsSound turns number page
-    → IsSound (turns ++ asked) number (with_events page events)
-acts-sound (send request) t number turns page events asked words acting acts sound =
-    subst (λ ts. IsSound (turns ++ ts) number (with_events page events)) (sym acts.3)
+    (adds : Added) → act_of page.terms page.past t ≡ action
+    → Performs action t number page.ending turns adds → IsSound turns number page
+    → IsSound (turns ++ adds.asked) number (with_events page adds.events)
+acts-sound (send request) t number turns page adds acting acts sound =
+    subst (λ ts. IsSound (turns ++ ts) number (with_events page adds.events)) (sym acts.3)
     (subst (λ es. IsSound (turns ++ acts.0 ∷ []) number (with_events page es)) (sym acts.2)
     (record {
       lawful =
@@ -229,10 +228,10 @@ acts-sound (send request) t number turns page events asked words acting acts sou
           ∙ ap (map event_of) (sym (turns_of-own number turns acts.0 acts.1.page));
       fits = sound.fits;
     }))
-acts-sound (wait_until moment) t number turns page events asked words acting acts sound =
-    unchanged-sound number turns page events asked acts.0 acts.1 sound
-acts-sound (run content first) t number turns page events asked words acting acts sound =
-    subst (λ ts. IsSound (turns ++ ts) number (with_events page events)) (sym acts.1)
+acts-sound (wait_until moment) t number turns page adds acting acts sound =
+    unchanged-sound number turns page adds.events adds.asked acts.0 acts.1 sound
+acts-sound (run content first) t number turns page adds acting acts sound =
+    subst (λ ts. IsSound (turns ++ ts) number (with_events page adds.events)) (sym acts.1)
     (subst (λ es. IsSound (turns ++ []) number (with_events page es)) (sym acts.0)
     (subst (λ ts. IsSound ts number (with_events page (ended page.ending ∷ [])))
     (sym (append-nil turns)) (record {
@@ -244,8 +243,8 @@ acts-sound (run content first) t number turns page events asked words acting act
           ∙ append-nil (filter is_heard page.past) ∙ sound.own;
       fits = sound.fits;
     })))
-acts-sound (over outcome) t number turns page events asked words acting acts sound =
-    unchanged-sound number turns page events asked acts.0 acts.1 sound
+acts-sound (over outcome) t number turns page adds acting acts sound =
+    unchanged-sound number turns page adds.events adds.asked acts.0 acts.1 sound
 
 -- The pages of the world are sound, and each turn is that of one of them.
 record IsSoundWorld (world : World) : Type 0 where
@@ -281,7 +280,8 @@ step-sound world world' (lines.Step t name) out fits step sound =
           sound-set world.turns step.asked 0 (length step.before) step.before step.page
           (with_events step.page step.events) step.behind there (omega arith) own
           (acts-sound (act_of step.page.terms step.page.past t) t (length step.before) world.turns
-          step.page step.events step.asked step.words refl step.acts
+          step.page (record { events = step.events; asked = step.asked; words = step.words }) refl
+          step.acts
           (sound-at world.turns 0 (length step.before) step.before step.page step.behind there
           (omega arith)));
       numbered =
@@ -299,7 +299,8 @@ step-sound world world' (lines.Step t name) out fits step sound =
 
     own : AllByRecursion (λ (turn : Turn). turn.page ≡ length step.before) step.asked
     own = asked-own (act_of step.page.terms step.page.past t) t (length step.before)
-        step.page.ending world.turns step.events step.asked step.words step.acts
+        step.page.ending world.turns
+        (record { events = step.events; asked = step.asked; words = step.words }) step.acts
 
     counted : length world.pages ≡ length step.before + length (step.page ∷ step.behind)
     counted = ap length step.place ∙ length-append step.before (step.page ∷ step.behind)

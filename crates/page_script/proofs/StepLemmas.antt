@@ -18,9 +18,9 @@ use Rattle.visit_core.specs.Rule.{Event, heard, ended, lost, act_of, act_after, 
 use Rattle.visit_core.specs.Stages.{HasPast}
 use Rattle.visit_core.specs.Terms.{Terms}
 use Rattle.page_script.specs.declared.script_page.ScriptPage.{ScriptPage}
-use Rattle.page_script.specs.World.{Page, Turn, event_of, Performs, turn_words, run_words, with_events, turns_of, is_heard}
+use Rattle.page_script.specs.World.{Page, Turn, Added, event_of, Performs, turn_words, run_words, with_events, turns_of, is_heard}
 use Rattle.desk.specs.Standing.{DeskState}
-use Rattle.page_script.specs.Standing.{DeskStands, turn_at, PageStands, EachSteps}
+use Rattle.page_script.specs.Standing.{DeskStands, turn_at, PageAtDesk, PageStands, EachSteps}
 
 -- ---- results
 
@@ -127,13 +127,21 @@ turns_of-own number turns turn own =
 
 -- ---- steps
 
+-- a page of a script, and the desk that it asks
+abbrev at_desk : ScriptPage → DeskState → PageAtDesk
+at_desk page desk = record { page = page; desk = desk }
+
+-- nothing is added but these words
+abbrev only_words : List ℕ → Added
+only_words words = record { events = []; asked = []; words = words }
+
 module _ (CanCount : ℕ → Type 0) (t : ℕ) (held : ScriptPage)
   where
     -- what is printed may be said in other words
     pub EachSteps-prints : (held' : ScriptPage) (desk desk' : DeskState) (P Q : List ℕ → Type 0)
         → ((words : List ℕ) → P words → Q words)
-        → EachSteps CanCount t held held' desk desk' P
-        → EachSteps CanCount t held held' desk desk' Q
+        → EachSteps CanCount t (at_desk held desk) (at_desk held' desk') P
+        → EachSteps CanCount t (at_desk held desk) (at_desk held' desk') Q
     EachSteps-prints held' desk desk' P Q more each number turns page stands desk_stands =
         let step = each number turns page stands desk_stands in record {
           events = step.events;
@@ -149,14 +157,14 @@ module _ (CanCount : ℕ → Type 0) (t : ℕ) (held : ScriptPage)
     pub quiet : (desk : DeskState) (action : Action) (words : List ℕ) (Prints : List ℕ → Type 0)
         → ((past : List Event) → HasPast held.visit past → action ≡ act_of held.visit.terms past t)
         → ((number : ℕ) (ending : Ending) (turns : List Turn)
-        → Performs action t number ending turns [] [] words) → Prints words
-        → EachSteps CanCount t held held desk desk Prints
+        → Performs action t number ending turns (only_words words)) → Prints words
+        → EachSteps CanCount t (at_desk held desk) (at_desk held desk) Prints
     quiet desk action words Prints act acts prints number turns page stands desk_stands = record {
       events = [];
       asked = [];
       words = words;
       acts =
-          subst (λ a. Performs a t number page.ending turns [] [] words)
+          subst (λ a. Performs a t number page.ending turns (only_words words))
           (act page.past stands.past ∙ ap (λ terms. act_of terms page.past t) stands.terms)
           (acts number page.ending turns);
       page_stands =
@@ -182,15 +190,18 @@ module _ (CanCount : ℕ → Type 0) (t : ℕ) (held : ScriptPage)
         → DeskStands CanCount desk' (turns ++ turn_at number t request turns reply desk'.faults
         ∷ []))
         → Prints ((ask_spelling request.ask ++ codes " : ") ++ reply_spelling reply)
-        → EachSteps CanCount t held held' desk desk' Prints
+        → EachSteps CanCount t (at_desk held desk) (at_desk held' desk') Prints
     sent held' desk desk' request reply Prints terms act hears name ending fits answers prints
         number turns page stands desk_stands = record {
           events = event_of turn ∷ [];
           asked = turn ∷ [];
           words = turn_words turn;
           acts =
-              subst (λ a. Performs a t number page.ending turns (event_of turn ∷ []) (turn ∷ [])
-              (turn_words turn)) (sym (act page.past stands.past)
+              subst (λ a. Performs a t number page.ending turns (record {
+                events = event_of turn ∷ [];
+                asked = turn ∷ [];
+                words = turn_words turn;
+              })) (sym (act page.past stands.past)
               ∙ ap (λ terms. act_of terms page.past t) stands.terms) (
                 turn,
                 record { page = refl; moment = refl; request = refl; drawn = refl; fits = fits },
@@ -227,7 +238,7 @@ module _ (CanCount : ℕ → Type 0) (t : ℕ) (held : ScriptPage)
         → act_of page.terms page.past u ≡ run body mark
         → PageStands turns number held' (with_events page (ended page.ending ∷ [])))
         → Prints (run_words content first)
-        → EachSteps CanCount t held held' desk desk Prints
+        → EachSteps CanCount t (at_desk held desk) (at_desk held' desk) Prints
     ran held' desk content first Prints act ends prints number turns page stands desk_stands =
         let runs : act_of page.terms page.past t ≡ run content first =
         sym (act page.past stands.past ∙ ap (λ terms. act_of terms page.past t) stands.terms) in
@@ -235,8 +246,11 @@ module _ (CanCount : ℕ → Type 0) (t : ℕ) (held : ScriptPage)
           events = ended page.ending ∷ [];
           asked = [];
           words = run_words content first;
-          acts = subst (λ a. Performs a t number page.ending turns (ended page.ending ∷ []) []
-              (run_words content first)) (sym runs) (refl, refl, refl);
+          acts = subst (λ a. Performs a t number page.ending turns (record {
+            events = ended page.ending ∷ [];
+            asked = [];
+            words = run_words content first;
+          })) (sym runs) (refl, refl, refl);
           page_stands =
               subst (λ ts. PageStands ts number held' (with_events page (ended page.ending ∷ [])))
               (sym (append-nil turns)) (ends number turns page content first t stands runs);

@@ -7,33 +7,32 @@ use Rattle.visit_core.specs.declared.act.Ending.{Ending}
 use Rattle.visit_core.specs.declared.terms.Limits.{Limits}
 use Rattle.visit_core.specs.Acts.{Action, send, wait_until, run, over}
 use Rattle.visit_core.specs.Rule.{Event, act_of}
+use Rattle.keeper.specs.declared.keeping.Keeper.{Ghosts}
 use Rattle.page_script.specs.declared.line.Line.TheVariants as lines
 use Rattle.page_script.specs.declared.line.PageLine.{PageLine}
 use Rattle.page_script.specs.declared.script.Script.{Script}
 use Rattle.page_script.specs.declared.script_page.ScriptPage.{ScriptPage}
 use Rattle.page_script.specs.Places.{IsUnused}
-use Rattle.page_script.specs.World.{Page, Turn, World, Performs, step_line, with_events, turns_of, new_page, most_pages}
+use Rattle.page_script.specs.World.{Page, Turn, World, Added, Performs, step_line, with_events, turns_of, new_page, most_pages}
 use Rattle.desk.specs.Standing.{state_of}
-use Rattle.page_script.specs.Standing.{PageStands, PagesStand, Steps, EachSteps, EachMayStep, Stays, Stands, WorldTakes}
+use Rattle.page_script.specs.Standing.{PageAtDesk, PageStands, PagesStand, Steps, EachSteps, EachMayStep, Stays, Stands, WorldTakes}
 use Rattle.page_script.proofs.PlaceLemmas.{All-append, All-more, turns_of-none, PagesStand-length, IsFound, found, PagesStand-push, unused-no_name}
 
 -- a step asks only in its own page's name
 pub asked-own : (action : Action) (t number : ℕ) (ending : Ending) (turns : List Turn)
-    (events : List Event) (asked : List Turn) (words : List ℕ)
-    → Performs action t number ending turns events asked words
-    → AllByRecursion (λ (turn : Turn). turn.page ≡ number) asked
-asked-own (send request) t number ending turns events asked words acts =
+    (adds : Added) → Performs action t number ending turns adds
+    → AllByRecursion (λ (turn : Turn). turn.page ≡ number) adds.asked
+asked-own (send request) t number ending turns adds acts =
     subst (AllByRecursion (λ (turn : Turn). turn.page ≡ number)) (sym acts.3) (acts.1.page, tt)
-asked-own (wait_until moment) t number ending turns events asked words acts =
+asked-own (wait_until moment) t number ending turns adds acts =
     subst (AllByRecursion (λ (turn : Turn). turn.page ≡ number)) (sym acts.1) tt
-asked-own (run content first) t number ending turns events asked words acts =
+asked-own (run content first) t number ending turns adds acts =
     subst (AllByRecursion (λ (turn : Turn). turn.page ≡ number)) (sym acts.1) tt
-asked-own (over outcome) t number ending turns events asked words acts =
+asked-own (over outcome) t number ending turns adds acts =
     subst (AllByRecursion (λ (turn : Turn). turn.page ≡ number)) (sym acts.1) tt
 
-module _ {K : Type 0} (CanCount : ℕ → Type 0) (told : K → Option (List ℕ → Option Item))
-    (count : K → ℕ) (script script' : Script K) (world : World)
-    (stands : Stands CanCount told count script world)
+module _ {K : Type 0} (G : Ghosts K) (script script' : Script K) (world : World)
+    (stands : Stands G.can_count G.told G.count script world)
   where
     -- a page that was named
     pub page-taken : (line : PageLine) (held : ScriptPage) → IsUnused script.pages.items line.name
@@ -41,9 +40,9 @@ module _ {K : Type 0} (CanCount : ℕ → Type 0) (told : K → Option (List ℕ
         → script'.pages.items ≡ script.pages.items ++ held ∷ []
         → ((number : ℕ) (turns : List Turn) → turns_of number turns ≡ []
         → PageStands turns number held (new_page script.limits line))
-        → script'.limits ≡ script.limits → state_of told count script'.desk
-        ≡ state_of told count script.desk
-        → WorldTakes CanCount told count script' world (lines.Page line) (λ printed. printed ≡ [])
+        → script'.limits ≡ script.limits → state_of G.told G.count script'.desk
+        ≡ state_of G.told G.count script.desk
+        → WorldTakes G script' world (lines.Page line) (λ printed. printed ≡ [])
     page-taken line held unused room items new limits desk = record {
       world' = record world { pages = world.pages ++ page ∷ [] };
       printed = [];
@@ -88,8 +87,8 @@ module _ {K : Type 0} (CanCount : ℕ → Type 0) (told : K → Option (List ℕ
     -- limits for the pages to come
     pub limits-taken : (limits : Limits) (out : List ℕ) → script'.limits ≡ limits
         → script'.pages.items ≡ script.pages.items
-        → state_of told count script'.desk ≡ state_of told count script.desk
-        → WorldTakes CanCount told count script' world (lines.Limits limits)
+        → state_of G.told G.count script'.desk ≡ state_of G.told G.count script.desk
+        → WorldTakes G script' world (lines.Limits limits)
         (λ printed. out ≡ out ++ printed)
     limits-taken limits out is items desk = record {
       world' = record world { limits = limits };
@@ -111,6 +110,10 @@ module _ {K : Type 0} (CanCount : ℕ → Type 0) (told : K → Option (List ℕ
         (named : held.name ≡ name) (items : script'.pages.items ≡ set script.pages.items n held')
         (limits : script'.limits ≡ script.limits)
       where
+        -- the page of the script, with the desk of a script
+        abbrev at_desk : ScriptPage → Script K → PageAtDesk
+        at_desk page script = record { page = page; desk = state_of G.told G.count script.desk }
+
         at : 0 + n ≡ n
         at = omega arith
 
@@ -118,9 +121,10 @@ module _ {K : Type 0} (CanCount : ℕ → Type 0) (told : K → Option (List ℕ
         there = found world.turns 0 script.pages.items world.pages n n held stands.pages inside is
             at
 
-        step-taken : (P : List ℕ → Type 0) → Steps CanCount t n world.turns there.page held'
-            (state_of told count script'.desk) (λ words. P (step_line t held.name words))
-            → WorldTakes CanCount told count script' world (lines.Step t name) P
+        step-taken : (P : List ℕ → Type 0) → Steps G.can_count t
+            (record { turns = world.turns; number = n; page = there.page })
+            (at_desk held' script') (λ words. P (step_line t held.name words))
+            → WorldTakes G script' world (lines.Step t name) P
         step-taken P step = record {
           world' = record world { pages = after; turns = world.turns ++ step.asked };
           printed = step_line t name step.words;
@@ -134,8 +138,9 @@ module _ {K : Type 0} (CanCount : ℕ → Type 0) (told : K → Option (List ℕ
             asked = step.asked;
             words = step.words;
             acts = subst (λ k. Performs (act_of there.page.terms there.page.past t) t k
-                there.page.ending world.turns step.events step.asked step.words) (sym there.count)
-                step.acts;
+                there.page.ending world.turns
+                (record { events = step.events; asked = step.asked; words = step.words }))
+                (sym there.count) step.acts;
             after = refl;
             printed = refl;
           };
@@ -163,7 +168,8 @@ module _ {K : Type 0} (CanCount : ℕ → Type 0) (told : K → Option (List ℕ
 
             own : AllByRecursion (λ (turn : Turn). turn.page ≡ n) step.asked
             own = asked-own (act_of there.page.terms there.page.past t) t n there.page.ending
-                world.turns step.events step.asked step.words step.acts
+                world.turns
+                (record { events = step.events; asked = step.asked; words = step.words }) step.acts
 
             long : length after ≡ length world.pages
             long = length-append there.before (with_events there.page step.events ∷ there.behind)
@@ -175,14 +181,15 @@ module _ {K : Type 0} (CanCount : ℕ → Type 0) (told : K → Option (List ℕ
                 stands.pages in omega arith
 
         pub each-taken : (P : List ℕ → Type 0)
-            → EachSteps CanCount t held held' (state_of told count script.desk)
-            (state_of told count script'.desk) (λ words. P (step_line t held.name words))
-            → WorldTakes CanCount told count script' world (lines.Step t name) P
+            → EachSteps G.can_count t (at_desk held script) (at_desk held' script')
+            (λ words. P (step_line t held.name words))
+            → WorldTakes G script' world (lines.Step t name) P
         each-taken P each = step-taken P (each n world.turns there.page there.stands stands.desk)
 
         -- nothing has changed
-        step-stayed : Stays CanCount n world.turns there.page held'
-            (state_of told count script'.desk) → Stands CanCount told count script' world
+        step-stayed : Stays G.can_count
+            (record { turns = world.turns; number = n; page = there.page })
+            (at_desk held' script') → Stands G.can_count G.told G.count script' world
         step-stayed stays = record {
           limits = limits ∙ stands.limits;
           pages =
@@ -197,10 +204,9 @@ module _ {K : Type 0} (CanCount : ℕ → Type 0) (told : K → Option (List ℕ
           desk = stays.desk_stands;
         }
 
-        pub may-taken : EachMayStep CanCount t held held' (state_of told count script.desk)
-            (state_of told count script'.desk)
-            → Stands CanCount told count script' world
-            ⊎ WorldTakes CanCount told count script' world (lines.Step t name) (λ printed. ⊤)
+        pub may-taken : EachMayStep G.can_count t (at_desk held script) (at_desk held' script')
+            → Stands G.can_count G.told G.count script' world
+            ⊎ WorldTakes G script' world (lines.Step t name) (λ printed. ⊤)
         may-taken each = elim (each n world.turns there.page there.stands stands.desk) [
           | inl stays ↦ inl (step-stayed stays)
           | inr step ↦ inr (step-taken (λ printed. ⊤) step)

@@ -9,6 +9,7 @@ use Rattle.asp_messages.specs.Fields.{most_cookie}
 use Rattle.cookie_source.specs.Counting.{Counter}
 use Rattle.session_machine.specs.declared.item.Item.{Item}
 use Rattle.session_machine.specs.History.{nothing}
+use Rattle.keeper.specs.declared.keeping.Keeper.{Ghosts}
 use Rattle.desk.specs.Standing.{DeskState, DeskStandsFor, state_of}
 use Rattle.visit_core.specs.Rule.{Event, act_of, has_ended}
 use Rattle.visit_core.specs.Stages.{HasPast}
@@ -16,7 +17,7 @@ use Rattle.page_script.specs.declared.line.Line.{Line}
 use Rattle.page_script.specs.declared.script_page.ScriptPage.{ScriptPage}
 use Rattle.page_script.specs.declared.script.Script.{Script}
 use Rattle.page_script.specs.Lines.{IsLine}
-use Rattle.page_script.specs.World.{Page, Turn, World, history, event_of, drawn_for, Performs, with_events, WorldStep, turns_of, is_heard}
+use Rattle.page_script.specs.World.{Page, Turn, World, Added, history, event_of, drawn_for, Performs, with_events, WorldStep, turns_of, is_heard}
 
 -- ---- the desk
 
@@ -58,41 +59,52 @@ PagesStand turns number (held ∷ helds) [] = ⊥
 PagesStand turns number (held ∷ helds) (page ∷ pages) = PageStands turns number held page
     × PagesStand turns (number + 1) helds pages
 
--- The page with this number took a step at the moment, behind these turns; what it prints meets the
--- condition.
-pub record Steps (CanCount : ℕ → Type 0) (t number : ℕ) (turns : List Turn) (page : Page)
-    (held' : ScriptPage) (desk' : DeskState) (Prints : List ℕ → Type 0) : Type 0 where
+-- A page of a script, and the desk that it asks.
+pub record PageAtDesk : Type 0 where
+  pub page : ScriptPage
+  pub desk : DeskState
+
+-- A page of a world: the turns so far, its number, and the page.
+pub record PageInWorld : Type 0 where
+  pub turns : List Turn
+  pub number : ℕ
+  pub page : Page
+
+-- The page of the world took a step at the moment, and the page and its desk stand for it behind
+-- that; what it prints meets the condition.
+pub record Steps (CanCount : ℕ → Type 0) (t : ℕ) (old : PageInWorld) (at : PageAtDesk)
+    (Prints : List ℕ → Type 0) : Type 0 where
   pub events : List Event
   pub asked : List Turn
   pub words : List ℕ
-  pub acts : Performs (act_of page.terms page.past t) t number page.ending turns events asked words
-  pub page_stands : PageStands (turns ++ asked) number held' (with_events page events)
-  pub desk_stands : DeskStands CanCount desk' (turns ++ asked)
+  pub acts : Performs (act_of old.page.terms old.page.past t) t old.number old.page.ending old.turns
+      (record { events = events; asked = asked; words = words })
+  pub page_stands : PageStands (old.turns ++ asked) old.number at.page
+      (with_events old.page events)
+  pub desk_stands : DeskStands CanCount at.desk (old.turns ++ asked)
   pub prints : Prints words
 
 -- each page of the world that the page of the script stood for, with the desk behind it, took the
 -- step
-abbrev pub EachSteps : (ℕ → Type 0) → ℕ → ScriptPage → ScriptPage → DeskState → DeskState
-    → (List ℕ → Type 0) → Type 0
-EachSteps CanCount t held held' desk desk' Prints =
-    (number : ℕ) (turns : List Turn) (page : Page) → PageStands turns number held page
-    → DeskStands CanCount desk turns
-    → Steps CanCount t number turns page held' desk' Prints
+abbrev pub EachSteps : (ℕ → Type 0) → ℕ → PageAtDesk → PageAtDesk → (List ℕ → Type 0) → Type 0
+EachSteps CanCount t old new Prints =
+    (number : ℕ) (turns : List Turn) (page : Page) → PageStands turns number old.page page
+    → DeskStands CanCount old.desk turns
+    → Steps CanCount t (record { turns = turns; number = number; page = page }) new Prints
 
 -- The page and the desk still stand for what they stood for.
-pub record Stays (CanCount : ℕ → Type 0) (number : ℕ) (turns : List Turn) (page : Page)
-    (held' : ScriptPage) (desk' : DeskState) : Type 0 where
-  pub page_stands : PageStands turns number held' page
-  pub desk_stands : DeskStands CanCount desk' turns
+pub record Stays (CanCount : ℕ → Type 0) (old : PageInWorld) (at : PageAtDesk) : Type 0 where
+  pub page_stands : PageStands old.turns old.number at.page old.page
+  pub desk_stands : DeskStands CanCount at.desk old.turns
 
 -- each page of the world that the page of the script stood for, with the desk behind it, stayed or
 -- took the step
-abbrev pub EachMayStep : (ℕ → Type 0) → ℕ → ScriptPage → ScriptPage → DeskState → DeskState → Type 0
-EachMayStep CanCount t held held' desk desk' =
-    (number : ℕ) (turns : List Turn) (page : Page) → PageStands turns number held page
-    → DeskStands CanCount desk turns
-    → Stays CanCount number turns page held' desk'
-    ⊎ Steps CanCount t number turns page held' desk' (λ words. ⊤)
+abbrev pub EachMayStep : (ℕ → Type 0) → ℕ → PageAtDesk → PageAtDesk → Type 0
+EachMayStep CanCount t old new =
+    (number : ℕ) (turns : List Turn) (page : Page) → PageStands turns number old.page page
+    → DeskStands CanCount old.desk turns
+    → Stays CanCount (record { turns = turns; number = number; page = page }) new
+    ⊎ Steps CanCount t (record { turns = turns; number = number; page = page }) new (λ words. ⊤)
 
 -- ---- the script
 
@@ -114,24 +126,20 @@ pub record Stands {K : Type 0} (CanCount : ℕ → Type 0) (told : K → Option 
 
 -- The world takes the line: the script stands for the world after it, and what is printed for it
 -- meets the condition.
-pub record WorldTakes {K : Type 0} (CanCount : ℕ → Type 0)
-    (told : K → Option (List ℕ → Option Item))
-    (count : K → ℕ) (script' : Script K) (world : World) (line : Line) (Prints : List ℕ → Type 0) :
-    Type 0 where
+pub record WorldTakes {K : Type 0} (G : Ghosts K) (script' : Script K) (world : World) (line : Line)
+    (Prints : List ℕ → Type 0) : Type 0 where
   pub world' : World
   pub printed : List ℕ
   pub step : WorldStep world line world' printed
-  pub stands : Stands CanCount told count script' world'
+  pub stands : Stands G.can_count G.told G.count script' world'
   pub prints : Prints printed
 
 -- The text is a line, and the world takes it.
-pub record WorldTakesText {K : Type 0} (CanCount : ℕ → Type 0)
-    (told : K → Option (List ℕ → Option Item))
-    (count : K → ℕ) (script' : Script K) (world : World) (text : List ℕ)
-    (Prints : List ℕ → Type 0) : Type 0 where
+pub record WorldTakesText {K : Type 0} (G : Ghosts K) (script' : Script K) (world : World)
+    (text : List ℕ) (Prints : List ℕ → Type 0) : Type 0 where
   pub line : Line
   pub is_line : IsLine text line
-  pub takes : WorldTakes CanCount told count script' world line Prints
+  pub takes : WorldTakes G script' world line Prints
 
 -- a fact where a keeper tells its items
 abbrev pub IfTold : Option (List ℕ → Option Item) → Type 0 → Type 0

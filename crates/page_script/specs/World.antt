@@ -98,19 +98,25 @@ abbrev pub run_words : Option (List ℕ) → Bool → List ℕ
 run_words None first = codes "run none"
 run_words (Some content) first = codes "run" then flag_word first then bytes_word content
 
--- What a step of a page adds to its past and to the turns, and its words, where its visit's act is
--- this: a request is answered, and the answer is heard at once; a page that runs ends so in the
--- same step; to wait, and to be over, changes nothing.
-abbrev pub Performs : Action → ℕ → ℕ → Ending → List Turn → List Event → List Turn → List ℕ → Type 0
-Performs (send request) t number ending turns events asked words =
-    (turn : Turn) × IsTurn number t request turns turn × (events ≡ event_of turn ∷ [])
-    × (asked ≡ turn ∷ []) × (words ≡ turn_words turn)
-Performs (wait_until moment) t number ending turns events asked words = (events ≡ []) × (asked ≡ [])
-    × (words ≡ codes "wait" then decimal moment)
-Performs (run content first) t number ending turns events asked words = (events ≡ ended ending ∷ [])
-    × (asked ≡ []) × (words ≡ run_words content first)
-Performs (over outcome) t number ending turns events asked words =
-    (events ≡ []) × (asked ≡ []) × (words ≡ codes "over" then outcome_spelling outcome)
+-- What a step of a page adds: events to its past, the turns that it asked for, and its words.
+pub record Added : Type 0 where
+  pub events : List Event
+  pub asked : List Turn
+  pub words : List ℕ
+
+-- What a step of a page adds where its visit's act is this: a request is answered, and the answer is
+-- heard at once; a page that runs ends so in the same step; to wait, and to be over, changes
+-- nothing. (The numbers are the moment and the page's; the turns are those before the step.)
+abbrev pub Performs : Action → ℕ → ℕ → Ending → List Turn → Added → Type 0
+Performs (send request) t number ending turns adds =
+    (turn : Turn) × IsTurn number t request turns turn × (adds.events ≡ event_of turn ∷ [])
+    × (adds.asked ≡ turn ∷ []) × (adds.words ≡ turn_words turn)
+Performs (wait_until moment) t number ending turns adds = (adds.events ≡ []) × (adds.asked ≡ [])
+    × (adds.words ≡ codes "wait" then decimal moment)
+Performs (run content first) t number ending turns adds = (adds.events ≡ ended ending ∷ [])
+    × (adds.asked ≡ []) × (adds.words ≡ run_words content first)
+Performs (over outcome) t number ending turns adds = (adds.events ≡ []) × (adds.asked ≡ [])
+    × (adds.words ≡ codes "over" then outcome_spelling outcome)
 
 -- the printed line of a step: its moment, the page's name and the words, with a line feed
 abbrev pub step_line : ℕ → List ℕ → List ℕ → List ℕ
@@ -132,8 +138,7 @@ pub record PageSteps (world : World) (t : ℕ) (name : List ℕ) (world' : World
   pub asked : List Turn
   pub words : List ℕ
   pub acts : Performs (act_of page.terms page.past t) t (length before) page.ending world.turns
-      events
-      asked words
+      (record { events = events; asked = asked; words = words })
   pub after : world' ≡ record world {
     pages = before ++ with_events page events ∷ behind;
     turns =

@@ -100,7 +100,7 @@ impl<K: Keeper> Script<K> {
         requires { PageFits line }
         ensures done { result ≡ LineEnd.Done → (world : World)
             → Stands K.can_count K.told K.count self.old world
-            → WorldTakes K.can_count K.told K.count self.new world (Line.Page line)
+            → WorldTakes ⟦<K as Keeper>⟧ self.new world (Line.Page line)
             (λ printed. printed ≡ []) }
         ensures not_a_line { result ≡ LineEnd.NotALine → (world : World)
             → Stands K.can_count K.told K.count self.old world → MayStandNext world (Line.Page line)
@@ -131,7 +131,7 @@ impl<K: Keeper> Script<K> {
         requires { t ≤ 2 ^ 62 }
         ensures done { result ≡ LineEnd.Done → (world : World)
             → Stands K.can_count K.told K.count self.old world
-            → WorldTakes K.can_count K.told K.count self.new world (Line.Step t name)
+            → WorldTakes ⟦<K as Keeper>⟧ self.new world (Line.Step t name)
             (λ printed. out.new.items ≡ out.old.items ++ printed) }
         ensures not_a_line { result ≡ LineEnd.NotALine → (world : World)
             → Stands K.can_count K.told K.count self.old world
@@ -141,7 +141,7 @@ impl<K: Keeper> Script<K> {
         ensures no_memory { result ≡ LineEnd.NoMemory → (world : World)
             → Stands K.can_count K.told K.count self.old world
             → Stands K.can_count K.told K.count self.new world
-            ⊎ WorldTakes K.can_count K.told K.count self.new world (Line.Step t name)
+            ⊎ WorldTakes ⟦<K as Keeper>⟧ self.new world (Line.Step t name)
             (λ printed. ⊤) }
         ensures is_over { result ≡ LineEnd.NoMemory → IsOver self.new }
         ensures goes_on { result ≡ LineEnd.Done → IsOver self.new → IsOver self.old }
@@ -165,7 +165,7 @@ impl<K: Keeper> Script<K> {
         requires { LineFits line }
         ensures done { result ≡ LineEnd.Done → (world : World)
             → Stands K.can_count K.told K.count self.old world
-            → WorldTakes K.can_count K.told K.count self.new world line
+            → WorldTakes ⟦<K as Keeper>⟧ self.new world line
             (λ printed. out.new.items ≡ out.old.items ++ printed) }
         ensures not_a_line { result ≡ LineEnd.NotALine → (world : World)
             → Stands K.can_count K.told K.count self.old world → MayStandNext world line → ⊥ }
@@ -173,7 +173,7 @@ impl<K: Keeper> Script<K> {
         ensures no_memory { result ≡ LineEnd.NoMemory → (world : World)
             → Stands K.can_count K.told K.count self.old world
             → Stands K.can_count K.told K.count self.new world
-            ⊎ WorldTakes K.can_count K.told K.count self.new world line (λ printed. ⊤) }
+            ⊎ WorldTakes ⟦<K as Keeper>⟧ self.new world line (λ printed. ⊤) }
         ensures is_over { result ≡ LineEnd.NoMemory → IsOver self.new }
         ensures goes_on { result ≡ LineEnd.Done → IsOver self.new → IsOver self.old }
         ensures same { (result ≡ LineEnd.Done → ⊥) → out.new.items ≡ out.old.items }
@@ -196,7 +196,7 @@ impl<K: Keeper> Script<K> {
         // appended.
         ensures done { result ≡ LineEnd.Done → (world : World)
             → Stands K.can_count K.told K.count self.old world
-            → WorldTakesText K.can_count K.told K.count self.new world text.now
+            → WorldTakesText ⟦<K as Keeper>⟧ self.new world text.now
             (λ printed. out.new.items ≡ out.old.items ++ printed) }
         ensures goes_on { result ≡ LineEnd.Done → IsOver self.new → ⊥ }
 
@@ -210,7 +210,7 @@ impl<K: Keeper> Script<K> {
         ensures no_memory { result ≡ LineEnd.NoMemory → (world : World)
             → Stands K.can_count K.told K.count self.old world
             → Stands K.can_count K.told K.count self.new world
-            ⊎ WorldTakesText K.can_count K.told K.count self.new world text.now (λ printed. ⊤) }
+            ⊎ WorldTakesText ⟦<K as Keeper>⟧ self.new world text.now (λ printed. ⊤) }
         ensures is_over { result ≡ LineEnd.NoMemory → IsOver self.new }
         ensures stays_over { IsOver self.old → (result ≡ LineEnd.NoMemory) × (self.new ≡ self.old) }
         ensures same { (result ≡ LineEnd.Done → ⊥) → out.new.items ≡ out.old.items }

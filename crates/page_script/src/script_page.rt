@@ -63,11 +63,13 @@ impl ScriptPage {
         requires sends { Sends self.old.visit t }
         requires acts { (past : List Event) → HasPast self.old.visit past
             → act_of self.old.visit.terms past t ≡ send request }
-        ensures ok { OnOk result (EachSteps K.can_count t self.old self.new
-            (state_of K.told K.count desk.old) (state_of K.told K.count desk.new)
+        ensures ok { OnOk result (EachSteps K.can_count t
+            (record { page = self.old; desk = state_of K.told K.count desk.old })
+            (record { page = self.new; desk = state_of K.told K.count desk.new })
             (λ words. out.new.items ≡ out.old.items ++ (words ++ 10 ∷ []))) }
-        ensures err { OnErr result (EachMayStep K.can_count t self.old self.new
-            (state_of K.told K.count desk.old) (state_of K.told K.count desk.new)) }
+        ensures err { OnErr result (EachMayStep K.can_count t
+            (record { page = self.old; desk = state_of K.told K.count desk.old })
+            (record { page = self.new; desk = state_of K.told K.count desk.new })) }
         ensures extends { OnErr result (Extends out.old.items out.new.items) }
         ensures floor { K.floor desk.new.keeper ≡ K.floor desk.old.keeper }
     {
@@ -100,11 +102,13 @@ impl ScriptPage {
         out: &mut Vec<u8>,
     ) -> Result<(), NoMemory>
         requires { t ≤ 2 ^ 62 }
-        ensures ok { OnOk result (EachSteps K.can_count t self.old self.new
-            (state_of K.told K.count desk.old) (state_of K.told K.count desk.new)
+        ensures ok { OnOk result (EachSteps K.can_count t
+            (record { page = self.old; desk = state_of K.told K.count desk.old })
+            (record { page = self.new; desk = state_of K.told K.count desk.new })
             (λ words. out.new.items ≡ out.old.items ++ step_line t self.old.name words)) }
-        ensures err { OnErr result (EachMayStep K.can_count t self.old self.new
-            (state_of K.told K.count desk.old) (state_of K.told K.count desk.new)) }
+        ensures err { OnErr result (EachMayStep K.can_count t
+            (record { page = self.old; desk = state_of K.told K.count desk.old })
+            (record { page = self.new; desk = state_of K.told K.count desk.new })) }
         ensures extends { OnErr result (Extends out.old.items out.new.items) }
         ensures floor { K.floor desk.new.keeper ≡ K.floor desk.old.keeper }
     {
@@ -135,11 +139,13 @@ impl ScriptPage {
         out: &mut Vec<u8>,
     ) -> Result<(), NoMemory>
         requires { t ≤ 2 ^ 62 }
-        ensures ok { OnOk result (EachSteps K.can_count t self.old self.new
-            (state_of K.told K.count desk.old) (state_of K.told K.count desk.new)
+        ensures ok { OnOk result (EachSteps K.can_count t
+            (record { page = self.old; desk = state_of K.told K.count desk.old })
+            (record { page = self.new; desk = state_of K.told K.count desk.new })
             (λ words. out.new.items ≡ out.old.items ++ step_line t self.old.name words)) }
-        ensures err { OnErr result (EachMayStep K.can_count t self.old self.new
-            (state_of K.told K.count desk.old) (state_of K.told K.count desk.new)) }
+        ensures err { OnErr result (EachMayStep K.can_count t
+            (record { page = self.old; desk = state_of K.told K.count desk.old })
+            (record { page = self.new; desk = state_of K.told K.count desk.new })) }
         ensures same { OnErr result (out.new.items ≡ out.old.items) }
         ensures floor { K.floor desk.new.keeper ≡ K.floor desk.old.keeper }
     {

@@ -78,7 +78,7 @@ module _ {K : Type 0} (G : keepers.Ghosts K) where
   module _ (script script' : Script K) (bytes held text held' due : List ℕ)
       (run : HasRun G script bytes held due) (split : SplitsAt 10 held text held') where
     took_last : (Prints : List ℕ → Type 0)
-        → (took : WorldTakesText G.can_count G.told G.count script' run.world text Prints)
+        → (took : WorldTakesText G script' run.world text Prints)
         → HasRunLast G script' bytes held' due took.takes.printed
     took_last Prints took = record {
       earlier = run.lines;
@@ -100,7 +100,7 @@ module _ {K : Type 0} (G : keepers.Ghosts K) where
     -- a line was run, and its print was appended to nothing
     pub line_done : (out out' : List ℕ) → out ≡ []
         → ((world : World) → Stands G.can_count G.told G.count script world
-        → WorldTakesText G.can_count G.told G.count script' world text (λ printed.
+        → WorldTakesText G script' world text (λ printed.
         out' ≡ out ++ printed))
         → HasRunLast G script' bytes held' due (out' ++ [])
     line_done out out' empty takes =
@@ -129,14 +129,14 @@ module _ {K : Type 0} (G : keepers.Ghosts K) where
     -- memory was wanting
     pub line_lacks : ((world : World) → Stands G.can_count G.told G.count script world
         → Stands G.can_count G.told G.count script' world
-        ⊎ WorldTakesText G.can_count G.told G.count script' world text (λ printed. ⊤))
+        ⊎ WorldTakesText G script' world text (λ printed. ⊤))
         → (rest : List ℕ)
         × (HasRun G script' bytes rest due
         ⊎ ((printed : List ℕ) × HasRunLast G script' bytes rest due printed))
     line_lacks either = of (either run.world run.stands)
       where
         of : Stands G.can_count G.told G.count script' run.world
-            ⊎ WorldTakesText G.can_count G.told G.count script' run.world text (λ printed. ⊤)
+            ⊎ WorldTakesText G script' run.world text (λ printed. ⊤)
             → (rest : List ℕ)
             × (HasRun G script' bytes rest due
             ⊎ ((printed : List ℕ) × HasRunLast G script' bytes rest due printed))

@@ -16,5 +16,5 @@ pub returns-in-Ok-clause-done : goal.returns-in-Ok-clause-done
 returns-in-Ok-clause-done g c end world stands =
     let free = rw c.deref.ensures.value at c.is_free.ensures in
     let may = free.0 c.if-not-is_free.false in
-    page-taken g.K.Keeper.can_count g.K.Keeper.told g.K.Keeper.count c.args.self.now _ world stands
+    page-taken g.K.Keeper c.args.self.now _ world stands
     c.args.line c.new-page.result may.1 may.0 c.in-Ok.ensures.ok c.new-page.ensures refl refl

@@ -11,7 +11,7 @@ returns-in_default-clause-not_a_line g c end world stands =
 pub returns-in-Ok-clause-done : goal.returns-in-Ok-clause-done
 returns-in-Ok-clause-done g c end world stands =
     let place = rw c.deref.ensures.value at c.in-Some.ensures in
-    each-taken g.K.Keeper.can_count g.K.Keeper.told g.K.Keeper.count c.args.self.now _ world stands
+    each-taken g.K.Keeper c.args.self.now _ world stands
     c.args.t c.in-Some.place c.args.name c.index_mut.result.now c.step.new.self
     place.inside c.index_mut.ensures.value (place-named c.args.self.now.pages.items c.args.name
     c.in-Some.place c.index_mut.result.now place c.index_mut.ensures.value) refl refl _
@@ -20,7 +20,7 @@ returns-in-Ok-clause-done g c end world stands =
 pub returns-in-Err-clause-no_memory : goal.returns-in-Err-clause-no_memory
 returns-in-Err-clause-no_memory g c end world stands =
     let place = rw c.deref.ensures.value at c.in-Some.ensures in
-    may-taken g.K.Keeper.can_count g.K.Keeper.told g.K.Keeper.count c.args.self.now _ world stands
+    may-taken g.K.Keeper c.args.self.now _ world stands
     c.args.t c.in-Some.place c.args.name c.index_mut.result.now c.step.new.self
     place.inside c.index_mut.ensures.value (place-named c.args.self.now.pages.items c.args.name
     c.in-Some.place c.index_mut.result.now place c.index_mut.ensures.value) refl refl
