@@ -56,14 +56,22 @@ impl Held {
         }
     }
 
-    /// Adds a piece. What is held moves once after something was taken. The only error is want of
-    /// memory, and nothing has changed then.
+    /// Adds a piece. What is held moves once after something was taken, into memory of its own size.
+    /// The only error is want of memory, and nothing has changed then.
     pub fn add(&mut self, piece: &[u8]) -> Result<(), NoMemory>
         ensures ok { OnOk result (self.new ≡ self.old ++ piece.now) }
         ensures err { OnErr result (self.new ≡ self.old) }
     {
-        compact(&mut self.bytes, &mut self.start);
-        self.bytes.extend_from_slice(piece)?;
+        if self.start == 0 {
+            self.bytes.extend_from_slice(piece)?;
+            return Ok(());
+        }
+        let left = &self.bytes[self.start..];
+        let mut bytes = Vec::with_capacity(self.alloc, left.len() + piece.len())?;
+        bytes.extend_from_slice(left)?;
+        bytes.extend_from_slice(piece)?;
+        self.bytes = bytes;
+        self.start = 0;
         Ok(())
     }
 

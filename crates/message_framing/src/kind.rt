@@ -35,12 +35,12 @@ pub trait MessageKind {
     ghost Waits: { List ℕ → Type 0 };
 
     /// Reads a head that ends with the text, of at most 8,192 bytes: the message that it begins.
-    /// `None` where no message begins with it. What the message keeps of the head is put into
-    /// `room`, which is empty and has room for as many bytes as the text has; it takes no other
-    /// memory.
-    fn begin(room: Vec<u8>, text: &[u8]) -> Option<Begun<Self::Message>>
-        requires empty { room.items ≡ [] }
-        requires room { length text.now ≤ vec_capacity room }
+    /// `None` where no message begins with it. `room` is empty and has room for as many bytes as the
+    /// text has: what the message keeps of the head is put there, and may be taken out with the
+    /// vector's memory. It takes no other memory.
+    fn begin(room: &mut Vec<u8>, text: &[u8]) -> Option<Begun<Self::Message>>
+        requires empty { room.old.items ≡ [] }
+        requires room { length text.now ≤ vec_capacity room.old }
         requires short { length text.now ≤ most_head }
         ensures head { IfSome result (λ begun. IsHead text.now begun.body_len) }
         ensures means { IfSome result (λ begun. (body : List ℕ) → length body ≡ begun.body_len

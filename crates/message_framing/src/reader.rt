@@ -52,6 +52,7 @@ pub enum State<M> {
 pub struct MessageReader<K: MessageKind> {
     alloc: Global,
     held: Held,
+    room: Vec<u8>,
     state: State<K::Message>,
     may_feed: bool,
 }
@@ -90,10 +91,12 @@ fn look<K: MessageKind, L: Ledger>(held: &Held, state: &mut State<K::Message>, s
     }
 }
 
-/// Reads the head whose end was found. After `NoMemory` nothing has changed.
+/// Reads the head whose end was found, with `room` for what the message keeps of it. After
+/// `NoMemory` nothing has changed.
 fn read<K: MessageKind, L: Ledger>(
     alloc: Global,
     held: &mut Held,
+    room: &mut Vec<u8>,
     state: &mut State<K::Message>,
     steps: &mut Steps<L>,
 ) -> Result<(), NoMemory>
@@ -116,7 +119,8 @@ fn read<K: MessageKind, L: Ledger>(
     let State::Ended(len) = *state else {
         return Ok(());
     };
-    let room = Vec::with_capacity(alloc, len as usize)?;
+    room.clear();
+    room.reserve(len as usize)?;
     match K::begin(room, held.front(len, steps)) {
         Some(begun) => *state = State::Read(len, begun),
         None => {
@@ -186,6 +190,7 @@ impl<K: MessageKind> MessageReader<K> {
         MessageReader {
             alloc,
             held: Held::new(alloc),
+            room: Vec::new(alloc),
             state: State::Looking(0, Phase::Blank),
             may_feed: true,
         }
@@ -243,7 +248,13 @@ impl<K: MessageKind> MessageReader<K> {
         ensures spent { SpendsWithin self.old self.new }
     {
         look::<K, L>(&self.held, &mut self.state, steps);
-        let Ok(()) = read::<K, L>(self.alloc, &mut self.held, &mut self.state, steps) else {
+        let Ok(()) = read::<K, L>(
+            self.alloc,
+            &mut self.held,
+            &mut self.room,
+            &mut self.state,
+            steps,
+        ) else {
             return Found::NoMemory;
         };
         let found = give::<K>(self.alloc, &mut self.held, &mut self.state);

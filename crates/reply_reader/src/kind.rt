@@ -57,7 +57,7 @@ impl MessageKind for Replies {
 
     ghost waits_for_body = { waits_for_body };
 
-    fn begin(room: Vec<u8>, text: &[u8]) -> Option<Begun<ReplyMessage>> {
+    fn begin(room: &mut Vec<u8>, text: &[u8]) -> Option<Begun<ReplyMessage>> {
         let mut headers = [EMPTY_HEADER_SPAN; 64];
         let (spans, body_len) = parse(text, &mut headers)?;
         let alloc = *room.allocator();

@@ -56,7 +56,7 @@ impl MessageKind for Requests {
 
     ghost waits_for_body = { waits_for_body };
 
-    fn begin(room: Vec<u8>, text: &[u8]) -> Option<Begun<Message>> {
+    fn begin(room: &mut Vec<u8>, text: &[u8]) -> Option<Begun<Message>> {
         let mut headers = [EMPTY_HEADER_SPAN; 64];
         let (spans, body_len) = parse(text, &mut headers)?;
         Some(Begun {

@@ -11,20 +11,33 @@ use httparse::spans::HeaderSpan;
 use message_framing::{Standing, find_field, lock_cookie, number_needed, number_or};
 use percent_encoding::percent_decode;
 use std::alloc::Global;
+use std::mem::replace;
 
 /// How long an item lives whose write says no timeout, in minutes.
 const DEFAULT_MINUTES: u64 = 20;
 
-/// The target without its escapes, in the room that is there for it.
-fn decoded(room: Vec<u8>, target: &[u8]) -> Vec<u8>
-    requires empty { room.items ≡ [] }
-    requires room { length target.now ≤ vec_capacity room }
-    ensures { result.items ≡ percent.percent_decode target.now }
+/// Puts the target without its escapes into the room that is there for it.
+fn decode(room: &mut Vec<u8>, target: &[u8])
+    requires empty { room.old.items ≡ [] }
+    requires room { length target.now ≤ vec_capacity room.old }
+    ensures { room.new.items ≡ percent.percent_decode target.now }
 {
-    let mut key = room;
-    match percent_decode(target).append_to(&mut key) {
-        Ok(()) => key,
-        Err(_) => key,
+    match percent_decode(target).append_to(room) {
+        Ok(()) => {}
+        Err(_) => {}
+    }
+}
+
+/// The bytes of the vector, with its memory where they are many. It takes no memory.
+fn take_key(room: &mut Vec<u8>) -> Bytes
+    ensures { result ≡ room.old.items }
+{
+    match Bytes::short(room.as_slice()) {
+        Some(key) => key,
+        None => {
+            let empty = Vec::new(*room.allocator());
+            Bytes::adopt(replace(room, empty))
+        }
     }
 }
 
@@ -117,30 +130,29 @@ fn ask(alloc: Global, verb: &[u8], buf: &[u8], headers: &[HeaderSpan]) -> Option
 }
 
 /// The message of a head's verb, target and fields, which lie in `buf`, with its body still to be
-/// filled in. The key is put into `room`, which is empty and has room for it; no other memory is
-/// taken.
+/// filled in. `room` is empty and has room for the key; no other memory is taken.
 #[tactic(auto, unfolding(asp_messages::specs::RequestSpelling::message_of))]
 pub fn message(
-    room: Vec<u8>,
+    room: &mut Vec<u8>,
     verb: &[u8],
     target: &[u8],
     buf: &[u8],
     headers: &[HeaderSpan],
 ) -> Message
     requires fields { All (IsHeaderWithin (length buf.now)) headers.now }
-    requires empty { room.items ≡ [] }
-    requires room { length target.now ≤ vec_capacity room }
+    requires empty { room.old.items ≡ [] }
+    requires room { length target.now ≤ vec_capacity room.old }
     ensures { result ≡ spelling.message_of verb.now target.now
         (map (header_bytes buf.now) headers.now) [] }
 {
     let alloc = *room.allocator();
-    let key = decoded(room, target);
-    if key.is_empty() || key.len() > MOST_KEY {
+    decode(room, target);
+    if room.is_empty() || room.len() > MOST_KEY {
         return Message::Unfit;
     }
     match ask(alloc, verb, buf, headers) {
         Some(ask) => Message::Fit(Request {
-            key: Bytes::adopt(key),
+            key: take_key(room),
             ask,
         }),
         None => Message::Unfit,

@@ -1,6 +1,6 @@
 use Rattle.std.proofs.Common.{arith, ap, length}
 use Rattle.percent_encoding.proofs.PercentLemmas.{length-percent_decode}
-use Rattle.request_reader.proofs.request.decoded.Goals as goal
+use Rattle.request_reader.proofs.request.decode.Goals as goal
 
 pub returns-in-Err : goal.returns-in-Err
 returns-in-Err c =
