@@ -83,7 +83,8 @@ module _ (CanCount : ℕ → Type 0) (first : ℕ) (opening : List ℕ → Optio
         entry = asked_entry caller t r drawn reply new.faults
 
         nth : (drawn ≡ draw_of first old.cookies.last (draws_in list) r.ask)
-            × (new.cookies.next ≡ counter_after first old.cookies.last (draws_in list + draws r.ask))
+            × (new.cookies.next
+            ≡ counter_after first old.cookies.last (draws_in list + draws r.ask))
         nth = drew.nth first (draws_in list) stand.some stand.next
 
         drawn_is : drawn ≡ draw_of first old.cookies.last (draws_in list) r.ask

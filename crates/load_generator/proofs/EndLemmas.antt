@@ -38,7 +38,8 @@ unfinished CanCount load sink state list asked = record {
   made = asked.made;
   removed = tt;
   few = omega arith;
-  stands = subst (λ (l : List Entry). StandsFor nothing 0 l state.told state.faults) (sym same) asked.desk.stands;
+  stands = subst (λ (l : List Entry). StandsFor nothing 0 l state.told state.faults)
+      (sym same) asked.desk.stands;
   counts = subst (λ (l : List Entry). AllByRecursion (λ e. CanCount e.faults) l) (sym same)
       asked.desk.counts;
   ends = inr (inr (refl, refl));
@@ -74,7 +75,8 @@ finished CanCount load removed status sink sink' state counts list made all are 
         ∙ ap (counts_text (length list) counts) (sym swept.counted)
         ∙ counts_text-is counts list swept.removals are
 
-    by_looks : ((swept.looks ≡ []) × (removed ≡ load.requests + 1)) ⊎ EndsSweep state.told swept.looks
+    by_looks : ((swept.looks ≡ []) × (removed ≡ load.requests + 1))
+        ⊎ EndsSweep state.told swept.looks
         → EndsSweep state.told swept.looks
     by_looks (inl none) =
         let counted = swept.counted in

@@ -69,14 +69,14 @@ pub Sweeps-look : (CanCount : ℕ → Type 0) (first most : ℕ) (list : List En
     → IsUnmoved s → (s ≡ swept.Nothing → TellsDue new.told last_moment None) → removed < most
     → Sweeps CanCount first most list new removed
 Sweeps-look CanCount first most list old new removed s before stand unmoved none left = record {
-      removals = before.removals;
-      looks = entry ∷ [];
-      expired = before.expired;
-      counted = before.counted;
-      few = let counted = before.counted in omega (arith, counted, left);
-      desk = stand;
-      ends = inr (look_ends new.told s new.faults unmoved none);
-    }
+  removals = before.removals;
+  looks = entry ∷ [];
+  expired = before.expired;
+  counted = before.counted;
+  few = let counted = before.counted in omega (arith, counted, left);
+  desk = stand;
+  ends = inr (look_ends new.told s new.faults unmoved none);
+}
   where
     entry : Entry
     entry = swept_entry 0 last_moment s new.faults

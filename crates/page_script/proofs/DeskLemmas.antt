@@ -1,12 +1,10 @@
 -- A desk goes on by one turn.
-use Rattle.std.proofs.Common.{◌≡◌, ℕ, List, [], ◌∷◌, ◌++◌, Option, sym, ap, ◌∙◌, subst}
+use Rattle.std.proofs.Common.{◌≡◌, ℕ, List, [], ◌∷◌, ◌++◌, sym, ap, ◌∙◌, subst}
 use Rattle.std.proofs.lemmas.List.{map-append}
 use Rattle.asp_messages.specs.declared.request.Request.{Request}
 use Rattle.asp_messages.specs.declared.reply.Reply.{Reply}
-use Rattle.asp_messages.specs.Fields.{most_cookie}
 use Rattle.desk.specs.Draws.{draw_of, draws_in}
 use Rattle.desk.specs.Standing.{DeskState, DeskStandsFor}
-use Rattle.session_machine.specs.declared.entry.Entry.{Entry}
 use Rattle.session_machine.specs.History.{nothing}
 use Rattle.shard_core.specs.Standing.{asked_entry}
 use Rattle.page_script.specs.World.{Turn, history, entry_of, drawn_for}

@@ -1,12 +1,11 @@
 -- The world that a script stands for takes a line.
-use Rattle.std.proofs.Common.{◌≡◌, ◌≢◌, ℕ, ◌+◌, ◌<◌, List, [], ◌∷◌, ◌++◌, length, get_or, set, Option, inl, inr, refl, sym, ap, ◌∙◌, arith, subst, append-nil, length-append}
+use Rattle.std.proofs.Common.{◌≡◌, ◌≢◌, ℕ, ◌+◌, ◌<◌, List, [], ◌∷◌, ◌++◌, length, get_or, set, inl, inr, refl, sym, ap, ◌∙◌, arith, subst, append-nil, length-append}
 use Rattle.std.specs.Prelude.{◌⊎◌, ⊤}
 use Rattle.std.specs.List.{AllByRecursion}
-use Rattle.session_machine.specs.declared.item.Item.{Item}
 use Rattle.visit_core.specs.declared.act.Ending.{Ending}
 use Rattle.visit_core.specs.declared.terms.Limits.{Limits}
 use Rattle.visit_core.specs.Acts.{Action, send, wait_until, run, over}
-use Rattle.visit_core.specs.Rule.{Event, act_of}
+use Rattle.visit_core.specs.Rule.{act_of}
 use Rattle.keeper.specs.declared.keeping.Keeper.{Ghosts}
 use Rattle.page_script.specs.declared.line.Line.TheVariants as lines
 use Rattle.page_script.specs.declared.line.PageLine.{PageLine}

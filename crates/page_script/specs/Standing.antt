@@ -1,12 +1,10 @@
 -- How a script stands for a world: its pages' visits for their pasts, and its desk for the turns so
 -- far.
-use Rattle.std.specs.Prelude.{◌≡◌, ◌⊎◌, ℕ, ◌+◌, ◌<◌, ◌≤◌, List, [], ◌∷◌, ◌++◌, length, map, filter, Option, Some, None, true, if◌then◌else◌, ⊤}
+use Rattle.std.specs.Prelude.{◌≡◌, ◌⊎◌, ℕ, ◌+◌, ◌<◌, List, [], ◌∷◌, ◌++◌, length, map, filter, Option, Some, None, true, if◌then◌else◌, ⊤}
 use Rattle.std.specs.List.{AllByRecursion}
-use Rattle.asp_messages.specs.declared.request.Ask.{Ask}
 use Rattle.asp_messages.specs.declared.request.Request.{Request}
 use Rattle.asp_messages.specs.declared.reply.Reply.{Reply}
 use Rattle.asp_messages.specs.Fields.{most_cookie}
-use Rattle.cookie_source.specs.Counting.{Counter}
 use Rattle.session_machine.specs.declared.item.Item.{Item}
 use Rattle.session_machine.specs.History.{nothing}
 use Rattle.keeper.specs.declared.keeping.Keeper.{Ghosts}
@@ -17,7 +15,7 @@ use Rattle.page_script.specs.declared.line.Line.{Line}
 use Rattle.page_script.specs.declared.script_page.ScriptPage.{ScriptPage}
 use Rattle.page_script.specs.declared.script.Script.{Script}
 use Rattle.page_script.specs.Lines.{IsLine}
-use Rattle.page_script.specs.World.{Page, Turn, World, Added, history, event_of, drawn_for, Performs, with_events, WorldStep, turns_of, is_heard}
+use Rattle.page_script.specs.World.{Page, Turn, World, history, event_of, drawn_for, Performs, with_events, WorldStep, turns_of, is_heard}
 
 -- ---- the desk
 

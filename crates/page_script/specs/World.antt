@@ -1,10 +1,10 @@
 -- The world of a script: named pages that visit one state server by a schedule, and what is printed
 -- of it. Each page follows the rule of a visit, and each request that it sends is one step of the
 -- session machine, whose reply it hears at once.
-use Rattle.std.specs.Prelude.{◌≡◌, ℕ, ◌+◌, ◌<◌, List, [], ◌∷◌, ◌++◌, length, map, filter, codes, decimal, unwrap_or, Option, Some, None, Bool, true, false, ◌==◌, ⊤}
+use Rattle.std.specs.Prelude.{◌≡◌, ℕ, ◌<◌, List, [], ◌∷◌, ◌++◌, length, map, filter, codes, decimal, Option, Some, None, Bool, true, false, ◌==◌, ⊤}
 use Rattle.asp_messages.specs.declared.request.Request.{Request}
 use Rattle.asp_messages.specs.declared.request.Ask.{Ask}
-use Rattle.asp_messages.specs.declared.request.Ask.TheVariants.{Acquire, Release}
+use Rattle.asp_messages.specs.declared.request.Ask.TheVariants.{Release}
 use Rattle.asp_messages.specs.declared.reply.Reply.{Reply as ReplyValue}
 use Rattle.asp_messages.specs.declared.reply.Reply.TheVariants.{Locked}
 use Rattle.asp_messages.specs.Fields.{most_cookie}
@@ -14,7 +14,7 @@ use Rattle.desk.specs.Draws.{draw_of, draws_in}
 use Rattle.session_machine.specs.declared.entry.Entry.{Entry}
 use Rattle.session_machine.specs.History.{nothing}
 use Rattle.shard_core.specs.Standing.{asked_entry}
-use Rattle.lock_laws.specs.Laws.{ToldLock, IsInForceFor}
+use Rattle.lock_laws.specs.Laws.{IsInForceFor}
 use Rattle.visit_core.specs.declared.act.Ending.{Ending}
 use Rattle.visit_core.specs.declared.act.Heard.TheVariants.{Reply}
 use Rattle.visit_core.specs.declared.terms.Limits.{Limits}
@@ -104,8 +104,8 @@ pub record Added : Type 0 where
   pub asked : List Turn
   pub words : List ℕ
 
--- What a step of a page adds where its visit's act is this: a request is answered, and the answer is
--- heard at once; a page that runs ends so in the same step; to wait, and to be over, changes
+-- What a step of a page adds where its visit's act is this: a request is answered, and the answer
+-- is heard at once; a page that runs ends so in the same step; to wait, and to be over, changes
 -- nothing. (The numbers are the moment and the page's; the turns are those before the step.)
 abbrev pub Performs : Action → ℕ → ℕ → Ending → List Turn → Added → Type 0
 Performs (send request) t number ending turns adds =

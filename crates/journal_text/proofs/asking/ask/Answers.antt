@@ -23,7 +23,8 @@ returns-in-Item-clause-asked c =
     asked-item c.args.items.now c.args.request c.in-Some.item.now new at
     c.args.reply c.in-Some.ensures.value (c.get_mut.follows.lender new)
     ((c.get_mut.follows.holds new).3 (some-there _ _ c.in-Some.ensures.value))
-    (subst (Leaves c.in-Some.item.now new c.args.request at c.args.reply) c.in-Item.is c.in_ok-why.ensures.left)
+    (subst (Leaves c.in-Some.item.now new c.args.request at c.args.reply)
+    c.in-Item.is c.in_ok-why.ensures.left)
 
 pub returns-in-Nothing-clause-asked : goal.returns-in-Nothing-clause-asked
 returns-in-Nothing-clause-asked c =
@@ -37,5 +38,6 @@ returns-in-Nothing-clause-asked c =
     c.args.reply c.in-Some.ensures.value (c.get_mut.follows.lender new)
     c.remove.new.self c.in-Nothing.key ((c.get_mut.follows.holds new).3
     (some-there _ _ c.in-Some.ensures.value))
-    (subst (Leaves c.in-Some.item.now new c.args.request at c.args.reply) c.in-Nothing.is c.in_ok-why.ensures.left)
+    (subst (Leaves c.in-Some.item.now new c.args.request at c.args.reply)
+    c.in-Nothing.is c.in_ok-why.ensures.left)
     c.remove.ensures.updates
