@@ -56,8 +56,8 @@ impl Held {
         }
     }
 
-    /// Adds a piece. What is held moves once after something was taken, into memory of its own size.
-    /// The only error is want of memory, and nothing has changed then.
+    /// Adds a piece. What is held moves once after something was taken, into memory of its own
+    /// size. The only error is want of memory, and nothing has changed then.
     pub fn add(&mut self, piece: &[u8]) -> Result<(), NoMemory>
         ensures ok { OnOk result (self.new ≡ self.old ++ piece.now) }
         ensures err { OnErr result (self.new ≡ self.old) }

@@ -35,9 +35,9 @@ pub trait MessageKind {
     ghost Waits: { List ℕ → Type 0 };
 
     /// Reads a head that ends with the text, of at most 8,192 bytes: the message that it begins.
-    /// `None` where no message begins with it. `room` is empty and has room for as many bytes as the
-    /// text has: what the message keeps of the head is put there, and may be taken out with the
-    /// vector's memory. It takes no other memory.
+    /// `None` where no message begins with it. `room` is empty and has room for as many bytes as
+    /// the text has: what the message keeps of the head is put there, and may be taken out with
+    /// the vector's memory. It takes no other memory.
     fn begin(room: &mut Vec<u8>, text: &[u8]) -> Option<Begun<Self::Message>>
         requires empty { room.old.items ≡ [] }
         requires room { length text.now ≤ vec_capacity room.old }

@@ -51,8 +51,8 @@ returns-then-matches-clause-spent g c =
       spent = spent_of c.give-found.new.state;
     }) =
     record {
-      held = λ whole. stands-spent kind.IsHead kind.Means kind.filled c.give-found.new.state c.give-found.new.held
-          c.give-found.ensures.stands whole;
+      held = λ whole. stands-spent kind.IsHead kind.Means kind.filled c.give-found.new.state
+          c.give-found.new.held c.give-found.ensures.stands whole;
       broke = λ whole _.
           let whole_then : is_broken_state c.look.new.state ≡ false = c.look.ensures.broken
           ∙ ap (λ (r : Reading). r.bytes.is_broken) c.self.view_is ∙ whole in
