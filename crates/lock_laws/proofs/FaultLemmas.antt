@@ -62,8 +62,10 @@ never items (e ∷ es) lead looks none =
       no-fault items e.deed e
           (λ key is. first (is_deed_of key e.deed) (items key) (false, e) _ is (lead' key))
           looks'.0,
-      never (λ key. cond (is_deed_of key e.deed) (after_entry (items key) (false, e)) (items key)) es
-          (λ key. behind (is_deed_of key e.deed) (items key) (false, e) _ (lead' key)) looks'.1 none.1,
+      never
+          (λ key. cond (is_deed_of key e.deed) (after_entry (items key) (false, e)) (items key)) es
+          (λ key. behind (is_deed_of key e.deed) (items key) (false, e) _ (lead' key)) looks'.1
+          none.1,
     )
 
 pub faults-counted : (opening : List ℕ → Option Item) (list : List Entry) → IsLegal opening 0 list

@@ -228,7 +228,8 @@ one-source opening count list key until other grant too legal same
     (drawn ∙ same ∙ sym drew) in
     let xs_same : xs ≡ us = one.0 in
     let e_same : e ≡ f = one.1 in
-    let replies : granted e.reply ≡ granted f.reply = ap (λ (g : Entry). granted g.reply) e_same in (
+    let replies : granted e.reply ≡ granted f.reply = ap (λ (g : Entry). granted g.reply) e_same
+    in (
       so ∙ ap (λ zs. zs ++ e ∷ []) xs_same ∙ ap (λ g. us ++ g ∷ []) e_same
           ∙ sym be,
       cc (given, gave, replies),

@@ -76,8 +76,8 @@ event_of turn = heard turn.moment turn.request (Reply turn.reply)
 
 -- ---- one step of a page
 
--- what an ask draws behind these turns: each acquire draws one more than the acquire before it, from
--- 1 on, and 0 past the last cookie
+-- what an ask draws behind these turns: each acquire draws one more than the acquire before it,
+-- from 1 on, and 0 past the last cookie
 abbrev pub drawn_for : List Turn → Ask → ℕ
 drawn_for turns ask = draw_of 1 most_cookie (draws_in (history turns)) ask
 

@@ -1,5 +1,5 @@
-//! Page scripts: the lines of a script, read from their text, and the world in which they run, where
-//! many pages visit one state server by a schedule.
+//! Page scripts: the lines of a script, read from their text, and the world in which they run,
+//! where many pages visit one state server by a schedule.
 #![tactic(auto)]
 
 mod answering;

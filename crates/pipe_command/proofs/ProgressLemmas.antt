@@ -101,7 +101,8 @@ module _ (CanCount : ℕ → Type 0) (pipe : Pipe) (bytes due front : List ℕ) 
               ∙ append-nil _);
           due_is =
               ap (λ t. t ++ due_for (output_of pipe.journal) Unfit answer s'.desk.faults) run.due_is
-              ∙ sym (due-unfit (output_of pipe.journal) pipe.start pipe.step pipe.first s'.desk.faults
+              ∙ sym (due-unfit (output_of pipe.journal) pipe.start pipe.step pipe.first
+              s'.desk.faults
               answer
               run.messages run.list replied.0 run.plain);
           desk = desk;
@@ -127,7 +128,8 @@ module _ (CanCount : ℕ → Type 0) (pipe : Pipe) (bytes due front : List ℕ) 
               ∙ ap (asking (step_moment pipe.start pipe.step (0 + length run.messages))) drawn_is
               ∙ sym (askings-push pipe.start pipe.step pipe.first 0 0 run.messages (Fit r));
           due_is =
-              ap (λ t. t ++ due_for (output_of pipe.journal) (Fit r) answer s'.desk.faults) run.due_is
+              ap (λ t. t ++ due_for (output_of pipe.journal) (Fit r) answer s'.desk.faults)
+              run.due_is
               ∙ sym (due-fit (output_of pipe.journal) pipe.start pipe.step pipe.first s'.desk.faults
               answer
               run.messages run.list r run.plain);

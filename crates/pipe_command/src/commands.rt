@@ -17,14 +17,14 @@ use script_runner::run_drive;
 use std::alloc::Global;
 
 /// Does what the words of the command line say, and answers the exit status and the keeper. It
-/// waits for nobody, and returns.
+/// takes no bound to wait, and returns.
 ///
 /// The status is 2 exactly where the words are none of the table of commands; the words are judged
 /// first and without memory, and nothing is read or written then. The other statuses of `pipe` and
 /// `trace` are those of `run_pipe`, those of `load`, `replay` and `drive` those of `run_load`,
-/// `run_replay` and `run_drive`. `id` reads nothing and takes no
-/// memory; its status is 5 where the sink failed, else 0. A word PATH names the file that the keeper
-/// stands on, which is the caller's to open.
+/// `run_replay` and `run_drive`. `id` reads nothing and takes no memory; its status is 5 where the
+/// sink failed, else 0. A word PATH names the file that the keeper stands on, which is the
+/// caller's to open.
 pub fn command<S: Source, T: Sink, K: Keeper>(
     alloc: Global,
     words: &[String],

@@ -285,7 +285,8 @@ module _ {K : Type 0} (G : keepers.Ghosts K) where
               whole_only sink sink' whole last
                   closes.0 wrote,
             )
-        over_drive verdicts.Whole ended whole last (inr (more, breaks, room)) wrote = absurd breaks.2
+        over_drive verdicts.Whole ended whole last (inr (more, breaks, room)) wrote =
+            absurd breaks.2
         over_drive verdicts.Broken ended whole last (inr (more, breaks, room)) wrote = of breaks.2.1
           where
             of : BeginsWrong breaks.2.0.world now.held

@@ -146,7 +146,8 @@ module _ {C V : Type 0} (G : Ghosts C V) (most : ℕ) (first : C) where
       given = run.given;
       within = omega (arith, run.left_is);
       ends = ends_of now' end (record f { sink' = sink'' }) run.taken
-          (stops_as (λ over. G.breaks (record { more = nat_lt 0 left; over = over }) first now' run.taken)
+          (stops_as
+          (λ over. G.breaks (record { more = nat_lt 0 left; over = over }) first now' run.taken)
           (IsOver G most first now' f.source' run.taken) (G.gave first now' run.taken)
           (G.lacks first now' run.taken) end f.sink sink''
           (λ over whole last is.

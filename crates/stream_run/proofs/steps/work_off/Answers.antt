@@ -22,7 +22,9 @@ steps-preserved g c =
 pub returns-in-Err-write_given-clause-ends : goal.returns-in-Err-write_given-clause-ends
 returns-in-Err-write_given-clause-ends g c = λ start first taken due went wrote.
     let goes = c.steps.invariant.goes in
-    stops_in_part (λ over. g.C.Consumer.breaks (record { more = c.args.more; over = over }) first c.step.new.self taken)
+    stops_in_part
+    (λ over. g.C.Consumer.breaks (record { more = c.args.more; over = over }) first
+    c.step.new.self taken)
     (g.C.Consumer.gave first c.step.new.self taken) (g.C.Consumer.lacks first c.step.new.self taken)
     start (g.T.Sink.taken c.steps.sink) (g.T.Sink.taken c.write_given-in-Over.new.sink)
     (due ++ goes.0)

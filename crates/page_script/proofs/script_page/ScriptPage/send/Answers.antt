@@ -23,5 +23,6 @@ returns-clause-err g c =
     (state_of g.K.Keeper.told g.K.Keeper.count c.args.desk.now)
     (state_of g.K.Keeper.told g.K.Keeper.count c.answer-reply.new.desk) c.args.request
     c.answer-reply.result _ c.heard.ensures.terms c.requires.acts
-    c.heard.ensures.past refl refl c.answer-reply.ensures.fits c.answer-reply.ensures.answers tt number
+    c.heard.ensures.past refl refl c.answer-reply.ensures.fits c.answer-reply.ensures.answers tt
+    number
     turns page stands desk_stands))
