@@ -4,7 +4,7 @@ use super::{PIPE, run_text, sink, source, spelled};
 use crate::commands::command;
 use crate::pipe::Pipe;
 use asp_base::{MemorySink, read_number};
-use keeper::ListKeeper;
+use keeper::MapKeeper;
 use std::alloc::Global;
 use std::test::Fail;
 
@@ -33,7 +33,7 @@ fn load(alloc: Global, requests: &str, seed: &str) -> Result<(u8, MemorySink), F
         &given,
         &mut input,
         &mut output,
-        ListKeeper::new(alloc),
+        MapKeeper::new(alloc),
     );
     Ok((ran.status, output))
 }
