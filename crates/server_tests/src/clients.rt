@@ -72,7 +72,9 @@ pub struct Sending<'a> {
 }
 
 impl Sending<'_> {
-    fn refill(&mut self) -> Result<(), NoMemory> {
+    fn refill(&mut self) -> Result<(), NoMemory>
+        ensures { self.new.faults ≡ self.old.faults }
+    {
         self.text.clear();
         self.at = 0;
         let code = self.next.swap(NOTHING, Ordering::SeqCst);
@@ -131,7 +133,9 @@ fn reply_of(alloc: Global, text: &[u8]) -> Option<Reply> {
 }
 
 impl Hearing<'_> {
-    fn hear(&mut self, piece: &[u8]) -> Option<()> {
+    fn hear(&mut self, piece: &[u8]) -> Option<()>
+        ensures { self.new.faults ≡ self.old.faults }
+    {
         self.text.extend_from_slice(piece).ok()?;
         if let Some(reply) = reply_of(self.alloc, self.text.as_slice()) {
             self.text.clear();
@@ -201,10 +205,7 @@ impl<'a> Door for Clients<'a> {
 
     ghost has_room = { λ _. ⊤ };
 
-    fn next<R: Wait>(
-        &mut self,
-        _rt: &R,
-    ) -> Result<Option<Conn<Sending<'a>, Hearing<'a>>>, Failed>
+    fn next<R: Wait>(&mut self, _rt: &R) -> Result<Option<Conn<Sending<'a>, Hearing<'a>>>, Failed>
         ensures some { IfOk result (λ o. IfSome o (λ _. ⊤)) }
         ensures room { IfOk result (λ o. IfSome o (λ _. ⊤)) }
         ensures none { IfOk result (λ o. IfNone o (⊤ × (untold ≡ untold))) }
