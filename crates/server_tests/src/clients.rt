@@ -1,5 +1,7 @@
 //! Clients that add one to a number under its lock, and what they hear.
-ghost use Rattle.std.specs.Prelude.{◌≡◌, ◌≤◌, ◌^◌, None, ⊤};
+ghost use Rattle.std.specs.Prelude.{◌≡◌, None, ⊤, IfOk, IfSome, IfNone, OnOk, OnErr};
+ghost use Rattle.asp_base.specs.Causes.{Rose};
+ghost use Rattle.stream_server.specs.Doors.{untold};
 
 use asp_base::{Bytes, Clock, Failed, LAST_MOMENT, NoMemory, Sink, Source};
 use asp_messages::{Ask, Reply, Request, write_request};
@@ -70,7 +72,9 @@ pub struct Sending<'a> {
 }
 
 impl Sending<'_> {
-    fn refill(&mut self) -> Result<(), NoMemory> {
+    fn refill(&mut self) -> Result<(), NoMemory>
+        ensures { self.new.faults ≡ self.old.faults }
+    {
         self.text.clear();
         self.at = 0;
         let code = self.next.swap(NOTHING, Ordering::SeqCst);
@@ -129,7 +133,9 @@ fn reply_of(alloc: Global, text: &[u8]) -> Option<Reply> {
 }
 
 impl Hearing<'_> {
-    fn hear(&mut self, piece: &[u8]) -> Option<()> {
+    fn hear(&mut self, piece: &[u8]) -> Option<()>
+        ensures { self.new.faults ≡ self.old.faults }
+    {
         self.text.extend_from_slice(piece).ok()?;
         if let Some(reply) = reply_of(self.alloc, self.text.as_slice()) {
             self.text.clear();
@@ -184,6 +190,8 @@ pub struct Clients<'a> {
     pub coming: Vec<Conn<Sending<'a>, Hearing<'a>>>,
     /// What those heard that came back, in order.
     pub heard: Vec<Vec<Reply>>,
+    /// How often it failed: never.
+    pub faults: u64,
 }
 
 impl<'a> Door for Clients<'a> {
@@ -191,17 +199,27 @@ impl<'a> Door for Clients<'a> {
 
     type Output = Hearing<'a>;
 
-    ghost told = { λ _. None };
+    ghost told = { λ _. untold };
 
-    ghost faults = { λ _. 0 };
+    ghost faults = { λ d. d.faults };
 
     ghost has_room = { λ _. ⊤ };
 
-    fn next<R: Wait>(&mut self, _rt: &R) -> Result<Option<Conn<Sending<'a>, Hearing<'a>>>, Failed> {
+    fn next<R: Wait>(&mut self, _rt: &R) -> Result<Option<Conn<Sending<'a>, Hearing<'a>>>, Failed>
+        ensures some { IfOk result (λ o. IfSome o (λ _. ⊤)) }
+        ensures room { IfOk result (λ o. IfSome o (λ _. ⊤)) }
+        ensures none { IfOk result (λ o. IfNone o (⊤ × (untold ≡ untold))) }
+        ensures failed { OnErr result (untold ≡ untold) }
+        ensures cause { OnErr result (Rose self.old.faults self.new.faults) }
+        ensures count { OnOk result (self.new.faults ≡ self.old.faults) }
+    {
         Ok(self.coming.pop())
     }
 
-    fn done(&mut self, conn: Conn<Sending<'a>, Hearing<'a>>, _end: StreamEnd) {
+    fn done(&mut self, conn: Conn<Sending<'a>, Hearing<'a>>, _end: StreamEnd)
+        ensures back { ⊤ }
+        ensures count { self.new.faults ≡ self.old.faults }
+    {
         let Conn { input: _, output } = conn;
         let Hearing { replies, .. } = output;
         let _ = self.heard.push(replies);

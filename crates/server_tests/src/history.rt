@@ -12,7 +12,7 @@ use std::alloc::Global;
 use std::str;
 use std::sync::atomic::AtomicU64;
 use std::test::Fail;
-use stream_server::{Worker, serve_all};
+use stream_server::{Served, Worker, serve_all};
 
 /// How many connections each of the two workers has.
 const EACH: usize = 10;
@@ -194,7 +194,11 @@ fn door_of<'a>(alloc: Global, nexts: &'a [AtomicU64], first: u64) -> Result<Clie
     }
     coming.reverse();
     let heard = Vec::with_capacity(alloc, nexts.len())?;
-    Ok(Clients { coming, heard })
+    Ok(Clients {
+        coming,
+        heard,
+        faults: 0,
+    })
 }
 
 fn nexts_of(alloc: Global, count: usize) -> Result<Vec<AtomicU64>, Fail> {
@@ -241,25 +245,30 @@ fn twenty_connections_on_one_key_are_one_legal_history(rt: HostRuntime) -> Resul
         workers.as_mut_slice(),
         &OpenGate,
     );
-    assert_eq!(rt; served.status, 0);
+    let Served {
+        status,
+        store,
+        passes,
+    } = served;
+    assert_eq!(rt; status, 0);
     let second = work_of(alloc, workers.pop(), 1)?;
     let first = work_of(alloc, workers.pop(), 0)?;
     let (journal, entries) = journal_of(alloc, first, second)?;
     let mut input = source(alloc, journal, 16_384, &[])?;
     let mut output = sink(alloc, 256, 256, &[])?;
-    let status = run_replay(alloc, 1 << 40, &mut input, &mut output);
+    let replayed = run_replay(alloc, 1 << 40, &mut input, &mut output);
     let mut want = Vec::from_slice(alloc, b"legal ")?;
     assert!(rt; push_number(&mut want, entries).is_ok() && push(&mut want, b"\n").is_ok());
     assert_eq!(rt;
         str::from_utf8(output.taken()),
         str::from_utf8(want.as_slice())
     );
-    assert_eq!(rt; status, 0);
-    let Some(store) = served.store else {
+    assert_eq!(rt; replayed, 0);
+    let Some(store) = store else {
         return Err("no store".into());
     };
     // Twenty clients, and five additions for each.
     let found = [(b'a', Some([100].as_slice()), entries)];
-    find_all(&rt, alloc, &store, served.passes, &found).ok_or("no pass")?;
+    find_all(&rt, alloc, &store, passes, &found).ok_or("no pass")?;
     Ok(())
 }

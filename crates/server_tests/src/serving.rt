@@ -12,7 +12,7 @@ use std::alloc::Global;
 use std::process::Abort;
 use std::sync::Wait;
 use std::test::Fail;
-use stream_server::StreamEnd;
+use stream_server::{Served, StreamEnd};
 
 /// What is found under a letter: the content, or nothing, and how many entries the history of its
 /// shard had.
@@ -152,16 +152,21 @@ fn two_workers_serve_one_store(rt: HostRuntime) -> Result<(), Fail> {
             workers.as_mut_slice(),
             &OpenGate,
         );
-        assert_eq!(rt; served.status, case.status);
-        assert!(rt; have_served(served.status));
+        let Served {
+            status,
+            store,
+            passes,
+        } = served;
+        assert_eq!(rt; status, case.status);
+        assert!(rt; have_served(status));
         assert_eq!(rt; workers.len(), 2);
         assert!(rt; has_served(&workers[0], 1 - case.fails.len().min(1)));
         assert!(rt; has_served(&workers[1], 1));
-        assert_eq!(rt; served.passes.len(), 2);
-        let Some(store) = served.store else {
+        assert_eq!(rt; passes.len(), 2);
+        let Some(store) = store else {
             return Err("no store".into());
         };
-        find_all(&rt, alloc, &store, served.passes, case.found).ok_or("no pass")?;
+        find_all(&rt, alloc, &store, passes, case.found).ok_or("no pass")?;
     }
     Ok(())
 }

@@ -14,7 +14,7 @@ use std::sync::Wait;
 use std::test::Fail;
 use std::thread::{Threads, join, sleep};
 use std::time::{Duration, SystemTime};
-use stream_server::{TcpDoor, Worker, serve_all};
+use stream_server::{Served, TcpDoor, Worker, serve_all};
 use visit_core::{Ending, Limits, Need, Outcome, Visit};
 
 /// A listener on a port of the machine itself that was free, and the port.
@@ -39,9 +39,16 @@ fn serve_some<R: Abort + Threads + Wait + HostTime + Sync>(
     let mut workers = vec![in alloc; worker].ok()?;
     let keepers = keepers(alloc, 8).ok()?;
     let served = serve_all(rt, alloc, keepers, workers.as_mut_slice(), &OpenGate);
-    assert_eq!(rt; served.status, 0);
-    let store = served.store?;
-    find_all(rt, alloc, &store, served.passes, found)
+    let Served {
+        status,
+        store,
+        passes,
+    } = served;
+    assert_eq!(rt; status, 0);
+    let Some(store) = store else {
+        return None;
+    };
+    find_all(rt, alloc, &store, passes, found)
 }
 
 /// Sends the bytes and reads until the peer has ended its side; the connection stays open. `None`
