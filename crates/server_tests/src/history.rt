@@ -3,7 +3,7 @@ ghost use Rattle.std.specs.Prelude.{◌≡◌, ◌≤◌, All, None, length, IfO
 
 use crate::clients::{ACQUIRE, Clients, NOTHING, OPEN, STEP, Steps, ask_of, client, code_after};
 use crate::memory::{keepers, sink, source};
-use crate::serving::find_all;
+use crate::serving::{find_all, had_memory};
 use asp_base::{NoMemory, OpenGate};
 use asp_messages::{Reply, push, push_number, spell_ask, spell_reply, then_number};
 use journal_replay::run_replay;
@@ -251,6 +251,7 @@ fn twenty_connections_on_one_key_are_one_legal_history(rt: HostRuntime) -> Resul
         passes,
     } = served;
     assert_eq!(rt; status, 0);
+    assert!(rt; had_memory(status));
     let second = work_of(alloc, workers.pop(), 1)?;
     let first = work_of(alloc, workers.pop(), 0)?;
     let (journal, entries) = journal_of(alloc, first, second)?;

@@ -1,5 +1,5 @@
 //! Workers that serve by the words of a command line.
-ghost use Rattle.std.specs.Prelude.{◌≡◌, ◌≤◌, ◌⊎◌, All, None, length, IfOk, IsTrue};
+ghost use Rattle.std.specs.Prelude.{◌≡◌, ◌≢◌, ◌≤◌, ◌⊎◌, All, None, length, IfOk, IsTrue};
 ghost use Rattle.state_store.specs.Passes.{IsPassOf};
 
 use crate::memory::{DONE, MemoryWorker, joined, keepers, worker};
@@ -128,6 +128,13 @@ pub fn find_all<R: Abort + Wait>(
         find(rt, alloc, store, &mut pass, found)?;
     }
     Some(())
+}
+
+/// Whether the status is none of want of memory.
+pub fn had_memory(status: u8) -> bool
+    ensures { IsTrue result → status ≢ 6 }
+{
+    status != 6
 }
 
 /// Whether the status is that of workers that served.

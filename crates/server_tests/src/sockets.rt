@@ -2,7 +2,7 @@
 ghost use Rattle.visit_core.specs.Terms.{EndingFits};
 
 use crate::memory::{BAD, DONE, joined, keepers};
-use crate::serving::{Found, find_all};
+use crate::serving::{Found, find_all, had_memory};
 use asp_base::{Bytes, Clock, HostClock, OpenGate};
 use page_link::{TcpLink, VisitEnd, run_visit};
 use std::alloc::Global;
@@ -45,6 +45,7 @@ fn serve_some<R: Abort + Threads + Wait + HostTime + Sync>(
         passes,
     } = served;
     assert_eq!(rt; status, 0);
+    assert!(rt; had_memory(status));
     let Some(store) = store else {
         return None;
     };
