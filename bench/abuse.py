@@ -32,7 +32,7 @@ def program():
     """The built program."""
     if len(sys.argv) > 1:
         return os.path.abspath(sys.argv[1])
-    subprocess.run([os.path.join(TOP, "asp_state"), "id", "00" * 15], check=True, stdout=subprocess.DEVNULL)
+    subprocess.run([os.path.join(TOP, "asp_state"), "--build"], check=True)
     return os.path.join(TOP, "crates", "asp_state", "out", "asp_state")
 
 
