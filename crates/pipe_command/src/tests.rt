@@ -13,7 +13,7 @@ use crate::pipe::Pipe;
 use crate::pipe_run::run_pipe;
 use asp_base::{Bytes, MemorySink, MemorySource};
 use asp_messages::spell_reply;
-use keeper::ListKeeper;
+use keeper::{ListKeeper, MapKeeper};
 use reply_reader::{ReplyNext, ReplyReader};
 use std::alloc::Global;
 use std::test::Fail;
@@ -51,13 +51,20 @@ fn sink(alloc: Global, fails: &[u64]) -> Result<MemorySink, Fail> {
     }
 }
 
-/// The status of a run over the text in pieces, and the bytes that it wrote.
+/// The status of a run over the text in pieces, and the bytes that it wrote, which are the same over
+/// both keepers in memory.
 fn run_text(alloc: Global, pipe: Pipe, text: &[u8], piece: u64) -> Result<(u8, MemorySink), Fail>
     requires { PipeFits pipe }
 {
     let mut input = source(alloc, text, piece, &[])?;
     let mut output = sink(alloc, &[])?;
     let ran = run_pipe(alloc, pipe, &mut input, &mut output, ListKeeper::new(alloc));
+    let mut again = source(alloc, text, piece, &[])?;
+    let mut mapped = sink(alloc, &[])?;
+    let map = run_pipe(alloc, pipe, &mut again, &mut mapped, MapKeeper::new(alloc));
+    if map.status != ran.status || mapped.taken() != output.taken() {
+        return Err("the keepers differ".into());
+    }
     Ok((ran.status, output))
 }
 

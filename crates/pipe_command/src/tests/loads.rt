@@ -1,10 +1,13 @@
 //! Loads by the command line, and their requests on a connection.
+ghost use Rattle.std.specs.Prelude.{◌≡◌};
+ghost use Rattle.keeper.specs.Items.{IsEmptyTold};
+
 use super::edges::words_of;
 use super::{PIPE, run_text, sink, source, spelled};
 use crate::commands::command;
 use crate::pipe::Pipe;
 use asp_base::{MemorySink, read_number};
-use keeper::MapKeeper;
+use keeper::{Keeper, ListKeeper, MapKeeper};
 use std::alloc::Global;
 use std::test::Fail;
 
@@ -23,18 +26,20 @@ pub const TEN: &[u8] =
 const TEN_COUNTED: &[u8] =
     b"requests 10\n200 5\n400 0\n404 5\n423 0\n500 0\n503 0\n507 0\nremoved 5\n";
 
-/// The status of `load`, and what it wrote.
-fn load(alloc: Global, requests: &str, seed: &str) -> Result<(u8, MemorySink), Fail> {
+/// The status of `load` over the keeper, and what it wrote.
+fn load<K: Keeper + Drop>(
+    alloc: Global,
+    requests: &str,
+    seed: &str,
+    keeper: K,
+) -> Result<(u8, MemorySink), Fail>
+    requires no_faults { K.count keeper ≡ 0 }
+    requires empty { IsEmptyTold (K.told keeper) }
+{
     let given = words_of(alloc, &["load", requests, seed])?;
     let mut input = source(alloc, b"", 16_384, &[])?;
     let mut output = sink(alloc, &[])?;
-    let ran = command(
-        alloc,
-        &given,
-        &mut input,
-        &mut output,
-        MapKeeper::new(alloc),
-    );
+    let ran = command(alloc, &given, &mut input, &mut output, keeper);
     Ok((ran.status, output))
 }
 
@@ -51,21 +56,30 @@ fn replies_counted(text: &[u8]) -> u64 {
 #[test]
 fn a_load_counts_its_replies(rt: HostRuntime) -> Result<(), Fail> {
     let alloc = rt.alloc();
-    let (status, output) = load(alloc, "10", "1")?;
+    let (status, output) = load(alloc, "10", "1", MapKeeper::new(alloc))?;
     assert_eq!(rt; status, 0);
     assert_eq!(rt; output.taken(), TEN_COUNTED);
     Ok(())
 }
 
 #[test]
-fn the_same_load_writes_the_same(rt: HostRuntime) -> Result<(), Fail> {
+fn a_load_writes_the_same_over_both_keepers(rt: HostRuntime) -> Result<(), Fail> {
     let alloc = rt.alloc();
-    let (status, output) = load(alloc, "10000", "1")?;
-    let (again, other) = load(alloc, "10000", "1")?;
+    let (status, output) = load(alloc, "20000", "7", ListKeeper::new(alloc))?;
+    let (again, other) = load(alloc, "20000", "7", MapKeeper::new(alloc))?;
     assert_eq!(rt; status, 0);
     assert_eq!(rt; again, 0);
     assert_eq!(rt; output.taken(), other.taken());
-    assert_eq!(rt; replies_counted(output.taken()), 10_000);
+    assert_eq!(rt; replies_counted(output.taken()), 20_000);
+    Ok(())
+}
+
+#[test]
+fn a_load_of_many_requests_is_written(rt: HostRuntime) -> Result<(), Fail> {
+    let alloc = rt.alloc();
+    let (status, output) = load(alloc, "200000", "1", MapKeeper::new(alloc))?;
+    assert_eq!(rt; status, 0);
+    assert_eq!(rt; replies_counted(output.taken()), 200_000);
     Ok(())
 }
 
