@@ -4,7 +4,7 @@
 usage: bench/pipe.py [--long] [PLAIN [OURS]]
 
 PLAIN is the plain program that bench/plain_pipe.sh builds; it is run in the same run as ours, by turns, over a hash map and over
-an ordered map, and must write the same bytes. OURS is another build of ours than the one that ./asp_state makes. Each case is run five times; the median is printed, with the
+an ordered map, and must write the same bytes. OURS is another build of ours than the one that ./asp_state makes. Each case is run three times; the median is printed, with the
 time a message, and where a case keeps many items the greatest resident memory for each byte of their keys and bodies. --long adds
 the streams over 1,000,000 keys, once each.
 Outside the gate; nothing of it is promised.
@@ -17,7 +17,7 @@ import tempfile
 import time
 
 TOP = os.path.dirname(os.path.dirname(os.path.abspath(__file__)))
-ROUNDS = 5
+ROUNDS = 3
 
 
 def small_messages(count, keys):
