@@ -1,10 +1,10 @@
 #!/usr/bin/env python3
 """Measures `asp_state pipe` on streams of requests, and beside it another program for the same job, where one is given.
 
-usage: bench/pipe.py [--long] [PROGRAM]
+usage: bench/pipe.py [--long] [PLAIN [OURS]]
 
-PROGRAM reads requests on standard input and writes replies on standard output under the words START STEP FIRST; it is run in
-the same run as ./asp_state, by turns, and must write the same bytes. Each case is run five times; the median is printed, with the
+PLAIN is the plain program that bench/plain_pipe.sh builds; it is run in the same run as ours, by turns, over a hash map and over
+an ordered map, and must write the same bytes. OURS is another build of ours than the one that ./asp_state makes. Each case is run three times; the median is printed, with the
 time a message, and where a case keeps many items the greatest resident memory for each byte of their keys and bodies. --long adds
 the streams over 1,000,000 keys, once each.
 Outside the gate; nothing of it is promised.
@@ -17,7 +17,7 @@ import tempfile
 import time
 
 TOP = os.path.dirname(os.path.dirname(os.path.abspath(__file__)))
-ROUNDS = 5
+ROUNDS = 3
 
 
 def small_messages(count, keys):
@@ -133,10 +133,15 @@ def main():
     words = sys.argv[1:]
     long = "--long" in words
     others = [word for word in words if word != "--long"]
-    subprocess.run([os.path.join(TOP, "asp_state"), "id", "0" * 30], check=True, stdout=subprocess.DEVNULL)
-    programs = [("asp_state", [os.path.join(TOP, "crates/asp_state/out/asp_state"), "pipe", "0", "1", "1"])]
+    if len(others) > 1:
+        ours = others[1]
+    else:
+        subprocess.run([os.path.join(TOP, "asp_state"), "--build"], check=True)
+        ours = os.path.join(TOP, "crates/asp_state/out/asp_state")
+    programs = [("asp_state", [ours, "pipe", "0", "1", "1"])]
     if others:
-        programs.append((os.path.basename(others[0]), [others[0], "0", "1", "1"]))
+        programs.append(("plain hash", [others[0], "0", "1", "1"]))
+        programs.append(("plain tree", [others[0], "0", "1", "1", "ordered"]))
     for case in CASES:
         measure(case, programs, ROUNDS)
     if long:

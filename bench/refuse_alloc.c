@@ -8,6 +8,7 @@
 #include <stddef.h>
 #include <stdio.h>
 #include <stdlib.h>
+#include <sys/syscall.h>
 #include <unistd.h>
 
 void *__libc_malloc(size_t);
@@ -25,7 +26,7 @@ __attribute__((constructor)) static void begin(void) {
     counts = 1;
 }
 
-__attribute__((destructor)) static void end(void) {
+static void tell(void) {
     const char *path = getenv("COUNT");
     counts = 0;
     if (path) {
@@ -38,6 +39,13 @@ __attribute__((destructor)) static void end(void) {
             close(file);
         }
     }
+}
+
+/* The program ends by this call, which runs no destructor. */
+void _exit(int status) {
+    tell();
+    syscall(SYS_exit_group, status);
+    __builtin_unreachable();
 }
 
 static int is_refused(void) {

@@ -4,7 +4,7 @@
 usage: bench/serve.py [--growth] [--sessions] [--calls] [PROGRAM]
 
 PROGRAM is the built program; without it ./asp_state builds it, and its own is taken. Without a flag it runs each server with 1, 8
-and 64 connections, by turns, three rounds of two seconds each, the server on one half of the processors and the load on the other,
+and 64 connections, by turns, three rounds of a second each, the server on one half of the processors and the load on the other,
 and prints the medians: requests a second, p50 and p99 in microseconds. --growth runs 1, 2, 4 and 8 workers with as many
 connections; --sessions writes 1,000,000 sessions of 100 bytes, and prints the memory and the time of a request before and after;
 --calls counts the system calls of 20,000 requests under strace. It needs cc, and redis-server, memcached, nginx and strace where
@@ -23,7 +23,7 @@ import time
 TOP = os.path.dirname(os.path.dirname(os.path.abspath(__file__)))
 CONNECTIONS = [1, 8, 64]
 ROUNDS = 3
-SECONDS = 2
+SECONDS = 1
 BODY = 1024
 LIMIT = 100_000
 
