@@ -5,7 +5,7 @@ usage: bench/refused_alloc.py [PROGRAM]
 
 PROGRAM is the built program; without it ./asp_state builds it, and its own is taken. A run must end with a status, 6 or the
 good one, never by a signal; what it wrote must be what the good run wrote, or a front of it, up to the first answer that says
-that memory was wanting. It prints for each command how many allocations a run has and how each ended, and ends with status 1
+that memory was wanting; a load that ends with 0 counts each request. It prints for each command how many allocations a run has and how each ended, and ends with status 1
 where one ended otherwise. `serve` and `visit` are run over sockets of this machine. It needs `cc`. Outside the gate.
 """
 import collections
@@ -71,6 +71,16 @@ def is_front(written, good, want):
     return good.startswith(written)
 
 
+def counts_all(written, good):
+    """Whether the text of a load counts as many requests as the good one, each under one status."""
+    lines = [line.split() for line in written.decode().splitlines()]
+    wanted = [line.split() for line in good.decode().splitlines()]
+    names = [line[0] for line in lines]
+    if names != [line[0] for line in wanted] or lines[0] != wanted[0]:
+        return False
+    return sum(int(line[1]) for line in lines[1:-1]) == int(lines[0][1])
+
+
 def tried(refuser, name, words, text):
     """Refuses each allocation of one command in turn."""
     status, good = refuser.run(words, text, 0)
@@ -80,8 +90,11 @@ def tried(refuser, name, words, text):
     for number in range(1, count + 1):
         got, written = refuser.run(words, text, number)
         ends[got] += 1
-        told = name == "load" and got == 0
-        if got not in (status, 6) or not (told or is_front(written, good, WANT.get(name))):
+        if name == "load" and got == 0:
+            fine = counts_all(written, good)
+        else:
+            fine = is_front(written, good, WANT.get(name))
+        if got not in (status, 6) or not fine:
             wrong.append((number, got, written[-60:]))
     said = ", ".join(f"{ends[k]} with {k}" for k in sorted(ends))
     print(f"{name}: status {status}, {count} allocations; refused in turn, the runs ended {said}")
