@@ -1,6 +1,6 @@
 //! The canonical text of a reply: a head in a fixed buffer, and the body behind it.
 ghost use Rattle.std.specs.Prelude.{◌≡◌, ◌+◌, ◌≤◌, ◌++◌, [], length, codes, decimal};
-ghost use Rattle.asp_messages.specs.ReplyText.{head_text, body_of, line, number_line, cookie_line, first_line, ending, status_line, reply_fields};
+ghost use Rattle.asp_messages.specs.ReplyText.{head_text, body_of, number_line, cookie_line, first_line, ending, status_line, reply_fields};
 
 use crate::Reply;
 use itoa::Buffer;
@@ -40,6 +40,7 @@ impl ReplyHead {
         &self.bytes[..self.len]
     }
 
+    #[inline(always)]
     fn push(&mut self, text: &[u8])
         requires { length self.old + length text.now ≤ 256 }
         ensures { self.new ≡ self.old ++ text.now }
@@ -47,14 +48,6 @@ impl ReplyHead {
         let end = self.len + text.len();
         self.bytes[self.len..end].copy_from_slice(text);
         self.len = end;
-    }
-
-    fn push_line(&mut self, text: &[u8])
-        requires { length self.old + length text.now + 2 ≤ 256 }
-        ensures { self.new ≡ self.old ++ line text.now }
-    {
-        self.push(text);
-        self.push(b"\r\n");
     }
 
     fn push_number(&mut self, name: &[u8], n: u64)
@@ -85,24 +78,24 @@ impl ReplyHead {
         ensures room { length self.new ≤ length self.old + 16 }
     {
         if first {
-            self.push_line(b"ActionFlags: 1");
+            self.push(b"ActionFlags: 1\r\n");
         }
     }
 }
 
 fn status_text(reply: &Reply) -> &'static [u8]
-    ensures text { line result.now ≡ status_line reply.now }
-    ensures short { length result.now ≤ 25 }
+    ensures text { result.now ≡ status_line reply.now }
+    ensures short { length result.now ≤ 27 }
 {
     match reply {
-        Reply::Found { .. } | Reply::Done => b"HTTP/1.1 200 OK",
-        Reply::Locked { .. } => b"HTTP/1.1 423 Locked",
-        Reply::Missing => b"HTTP/1.1 404 Not Found",
-        Reply::Bad => b"HTTP/1.1 400 Bad Request",
-        Reply::KeeperFault => b"HTTP/1.1 500 Keeper Fault",
-        Reply::NoMemory => b"HTTP/1.1 503 No Memory",
-        Reply::CookiesOut => b"HTTP/1.1 507 Cookies Out",
-        Reply::PlacesOut => b"HTTP/1.1 508 Places Out",
+        Reply::Found { .. } | Reply::Done => b"HTTP/1.1 200 OK\r\n",
+        Reply::Locked { .. } => b"HTTP/1.1 423 Locked\r\n",
+        Reply::Missing => b"HTTP/1.1 404 Not Found\r\n",
+        Reply::Bad => b"HTTP/1.1 400 Bad Request\r\n",
+        Reply::KeeperFault => b"HTTP/1.1 500 Keeper Fault\r\n",
+        Reply::NoMemory => b"HTTP/1.1 503 No Memory\r\n",
+        Reply::CookiesOut => b"HTTP/1.1 507 Cookies Out\r\n",
+        Reply::PlacesOut => b"HTTP/1.1 508 Places Out\r\n",
     }
 }
 
@@ -137,10 +130,10 @@ pub fn reply_head(reply: &Reply) -> ReplyHead
     ensures { result ≡ head_text reply.now }
 {
     let mut head = ReplyHead::new();
-    head.push_line(status_text(reply));
+    head.push(status_text(reply));
     push_fields(&mut head, reply);
     head.push_number(b"Content-Length", reply_body(reply).len() as u64);
-    head.push_line(b"");
+    head.push(b"\r\n");
     head
 }
 

@@ -1,5 +1,5 @@
 //! What a consumer gave, on a sink.
-ghost use Rattle.std.specs.Prelude.{◌≡◌, ◌<◌, ◌++◌, OnOk, OnErr, IfSome, length};
+ghost use Rattle.std.specs.Prelude.{◌≡◌, ◌<◌, ◌++◌, [], OnOk, OnErr, IfSome, length};
 ghost use Rattle.asp_base.specs.Causes.{HasCause};
 ghost use Rattle.asp_base.specs.Outside.{Takes, TakesFront};
 
@@ -10,14 +10,14 @@ use asp_base::{Failed, Sink, write_whole};
 /// The most bytes of two parts that are written in one call.
 const MOST_AT_ONCE: usize = 1024;
 
-/// The two parts in one text, where they are short.
-fn joined(head: &[u8], body: &[u8]) -> Option<ArrayVec<u8, MOST_AT_ONCE>>
-    ensures { IfSome result (λ text. text.items ≡ head.now ++ body.now) }
+/// Puts the two parts into an empty text; `None` where they are too long for it.
+fn join(text: &mut ArrayVec<u8, MOST_AT_ONCE>, head: &[u8], body: &[u8]) -> Option<()>
+    requires { text.old.items ≡ [] }
+    ensures { IfSome result (λ _. text.new.items ≡ head.now ++ body.now) }
 {
-    let mut text = ArrayVec::new();
     text.try_extend_from_slice(head).ok()?;
     text.try_extend_from_slice(body).ok()?;
-    Some(text)
+    Some(())
 }
 
 fn write_apart<T: Sink>(sink: &mut T, head: &[u8], body: &[u8]) -> Result<(), Failed>
@@ -40,8 +40,9 @@ pub fn write_text<T: Sink>(sink: &mut T, head: &[u8], body: &[u8]) -> Result<(),
         (TakesFront (T.taken sink.old) (T.taken sink.new) (head.now ++ body.now)) }
     ensures cause { HasCause (T.faults sink.old) (T.faults sink.new) result }
 {
-    match joined(head, body) {
-        Some(text) => write_whole(sink, text.as_slice()),
+    let mut text = ArrayVec::new();
+    match join(&mut text, head, body) {
+        Some(()) => write_whole(sink, text.as_slice()),
         None => write_apart(sink, head, body),
     }
 }
