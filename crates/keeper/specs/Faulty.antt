@@ -37,7 +37,8 @@ module _ {K : Type 0} (G : Ghosts K) where
 
   -- Each call is counted. A listed call fails, which is counted, and does not reach the keeper that
   -- it wraps; every other call is that keeper's, with its causes.
-  pub record FailsListed {T : Type 0} (old new : Wrapped K) (result : Result T KeepError) : Type 0 where
+  pub record FailsListed {T : Type 0} (old new : Wrapped K) (result : Result T KeepError)
+      : Type 0 where
     pub calls : new.calls ≡ one_more old.calls
     pub fails : new.fails ≡ old.fails
     pub listed : Contains old.fails old.calls → IsErrOf result Fault × (new.inner ≡ old.inner)
