@@ -1,5 +1,5 @@
 -- Items in the order of their keys, and the set of the moments at which they expire.
-use Rattle.std.proofs.Common.{◌≡◌, ◌≢◌, ℕ, ◌<◌, ◌≤◌, Bool, true, false, cond, List, [], ◌∷◌, length, Some, None, Option, refl, sym, ap, ◌∙◌, arith, subst, inl, inr}
+use Rattle.std.proofs.Common.{◌≡◌, ℕ, ◌<◌, ◌≤◌, Bool, true, false, cond, List, [], ◌∷◌, length, Some, None, Option, refl, sym, ap, ◌∙◌, arith, subst, inl, inr}
 use Rattle.std.specs.Prelude.{◌&&◌, nat_eq, IfSome, IsTrue}
 use Rattle.std.specs.List.{list_any}
 use Rattle.std.specs.Str.{bytes_eq}
@@ -22,7 +22,7 @@ use Rattle.session_machine.specs.Liveness.{ItemFits, expiry}
 use Rattle.keeper.specs.declared.dues.Due.{Due}
 use Rattle.keeper.specs.Due.{ComesBefore, IsDue, IsFirstDue}
 use Rattle.keeper.specs.Items.{Sets}
-use Rattle.keeper.specs.Ordered.{item_of, due_cmp, expires_at, HoldsDues, IsKept}
+use Rattle.keeper.specs.Ordered.{item_of, due_cmp, expires_at, HoldsDues, IsKept, MovesDue}
 use Rattle.keeper.proofs.PairLemmas.{bytes_eq-same, bytes_eq-symm-false}
 use Rattle.keeper.proofs.DueLemmas.{greater_not}
 
@@ -125,19 +125,15 @@ one_less true false c h = refl
 one_less false true c h = h refl
 one_less false false c h = refl
 
-one_other : (x y b c : Bool) → (b ≡ true → c ≡ x) → (x ≡ true → y ≡ true → ⊥)
-    → cond (x && b) false (cond (y && b) true c) ≡ cond b y c
-one_other true true b c h apart = absurd (apart refl refl)
-one_other true false true c h apart = refl
-one_other true false false c h apart = refl
-one_other false true true c h apart = refl
-one_other false true false c h apart = refl
-one_other false false true c h apart = h refl
-one_other false false false c h apart = refl
-
-as_before : (y b c : Bool) → (b ≡ true → c ≡ y) → c ≡ cond b y c
-as_before y true c h = h refl
-as_before y false c h = refl
+one_moved : (x y b c : Bool) → (b ≡ true → c ≡ x)
+    → cond (y && b) true (cond (x && b) false c) ≡ cond b y c
+one_moved x true true c h = refl
+one_moved true false true c h = refl
+one_moved false false true c h = h refl
+one_moved true true false c h = refl
+one_moved true false false c h = refl
+one_moved false true false c h = refl
+one_moved false false false c h = refl
 
 -- the set has one pair more, of a key that had no item
 pub IsKept-add : (m n : BTreeMap (List ℕ) Item) (s t : BTreeSet Due) (key : List ℕ) (item : Item)
@@ -182,50 +178,63 @@ IsKept-cut m n s t key item there changes takes kept = record {
         ∙ one_less (nat_eq (expiry item) q.expiry) (at_key key q.key) c
         (known (item_of m.entries) s key (Some item) q kept.holds there)
 
--- an item takes the place of one that expires at the same moment
-pub IsKept-same : (m n : BTreeMap (List ℕ) Item) (s : BTreeSet Due) (key : List ℕ) (old item : Item)
-    → item_of m.entries key ≡ Some old → expiry old ≡ expiry item → KeyFits key
-    → ItemFits item → tree.Updates (slice_cmp nat_cmp) m n key (Some item) → IsKept m.entries s
-    → IsKept n.entries s
-IsKept-same m n s key old item there same key_fits fits changes kept = record {
-  fits = fits_after m n key (Some item) changes (key_fits, fits) kept.fits;
-  holds = holds_after (item_of m.entries) (item_of n.entries) s s key (Some item) changes.0
-      kept.holds (λ q.
-      as_before (nat_eq (expiry item) q.expiry) (at_key key q.key) (sorted.contains due_cmp s q)
-      (λ at. known (item_of m.entries) s key (Some old) q kept.holds there at
-      ∙ ap (λ e. nat_eq e q.expiry) same));
-}
-
--- an item takes the place of one that expires at another moment
-pub IsKept-move : (m n : BTreeMap (List ℕ) Item) (s u t : BTreeSet Due) (key : List ℕ)
-    (old item : Item) → item_of m.entries key ≡ Some old → expiry old ≢ expiry item → KeyFits key
-    → ItemFits item → tree.Updates (slice_cmp nat_cmp) m n key (Some item)
-    → sorted.Updates due_cmp s u (record { expiry = expiry item; key = key }) true
-    → sorted.Updates due_cmp u t (record { expiry = expiry old; key = key }) false
-    → IsKept m.entries s → IsKept n.entries t
-IsKept-move m n s u t key old item there apart key_fits fits changes adds takes kept = record {
+-- an item takes the place of another, and its pair that of the other's
+pub IsKept-put : (m n : BTreeMap (List ℕ) Item) (s t : BTreeSet Due) (key : List ℕ)
+    (old item : Item) → item_of m.entries key ≡ Some old → KeyFits key → ItemFits item
+    → tree.Updates (slice_cmp nat_cmp) m n key (Some item)
+    → MovesDue s t key (expiry old) (expiry item) → IsKept m.entries s → IsKept n.entries t
+IsKept-put m n s t key old item there key_fits fits changes moved kept = record {
   fits = fits_after m n key (Some item) changes (key_fits, fits) kept.fits;
   holds = holds_after (item_of m.entries) (item_of n.entries) s t key (Some item) changes.0
       kept.holds moves;
 }
   where
-    both : (q : Due) → nat_eq (expiry old) q.expiry ≡ true → nat_eq (expiry item) q.expiry ≡ true
-        → ⊥
-    both q is other = apart (eqb-true (expiry old) q.expiry is
-        ∙ sym (eqb-true (expiry item) q.expiry other))
-
     moves : (q : Due) → sorted.contains due_cmp t q
         ≡ cond (at_key key q.key) (nat_eq (expiry item) q.expiry) (sorted.contains due_cmp s q)
     moves q =
         let c = sorted.contains due_cmp s q in
-        takes.0 q ∙ ap (λ b. cond b false (sorted.contains due_cmp u q))
-        (due_at (record { expiry = expiry old; key = key }) q)
-        ∙ ap (λ w. cond (nat_eq (expiry old) q.expiry && at_key key q.key) false w)
-        (adds.0 q ∙ ap (λ b. cond b true c)
-        (due_at (record { expiry = expiry item; key = key }) q))
-        ∙ one_other (nat_eq (expiry old) q.expiry) (nat_eq (expiry item) q.expiry)
+        let was : Due = record { expiry = expiry old; key = key } in
+        let is : Due = record { expiry = expiry item; key = key } in
+        moved q ∙ ap (λ b. cond b true (cond (is_at (due_cmp was) q) false c)) (due_at is q)
+        ∙ ap (λ b. cond (nat_eq (expiry item) q.expiry && at_key key q.key) true (cond b false c))
+        (due_at was q)
+        ∙ one_moved (nat_eq (expiry old) q.expiry) (nat_eq (expiry item) q.expiry)
         (at_key key q.key) c (known (item_of m.entries) s key (Some old) q kept.holds there)
-        (both q)
+
+both_true : (a b : Bool) → (a && b) ≡ true → (a ≡ true) × (b ≡ true)
+both_true true true h = (refl, refl)
+both_true true false h = absurd (no h)
+  where
+    no : false ≡ true → ⊥
+    no p = cc
+both_true false b h = absurd (no h)
+  where
+    no : false ≡ true → ⊥
+    no p = cc
+
+-- where both moments are one the set stays
+pub MovesDue-same : (s : BTreeSet Due) (key : List ℕ) (from to : ℕ) → from ≡ to
+    → sorted.contains due_cmp s (record { expiry = from; key = key }) ≡ true
+    → MovesDue s s key from to
+MovesDue-same s key from to same there q =
+    subst (λ (t : ℕ). has ≡ cond (found t) true (cond (found from) false has)) same
+    (by_test (found from) refl)
+  where
+    has : Bool
+    has = sorted.contains due_cmp s q
+
+    found : ℕ → Bool
+    found t = is_at (due_cmp (record { expiry = t; key = key })) q
+
+    by_test : (b : Bool) → found from ≡ b → has ≡ cond b true (cond b false has)
+    by_test true at =
+        let parts = both_true (nat_eq from q.expiry) (at_key key q.key)
+        (sym (due_at (record { expiry = from; key = key }) q) ∙ at) in
+        sym (ap (λ (t : ℕ). sorted.contains due_cmp s (record { expiry = t; key = key }))
+        (eqb-true from q.expiry parts.0)
+        ∙ ap (λ (k : List ℕ). sorted.contains due_cmp s (record { expiry = q.expiry; key = k }))
+        (at_key-same key q.key parts.1)) ∙ there
+    by_test false at = refl
 
 -- nothing changed
 pub IsKept-unchanged : (m n : BTreeMap (List ℕ) Item) (s t : BTreeSet Due) → n.entries ≡ m.entries
@@ -246,7 +255,7 @@ there_is None moment h = absurd (no h)
 there_is (Some i) moment h = (i, refl, eqb-true (expiry i) moment h)
 
 -- the set has the pair of each key
-has_pair : (f : List ℕ → Option Item) (s : BTreeSet Due) (key : List ℕ) (item : Item)
+pub has_pair : (f : List ℕ → Option Item) (s : BTreeSet Due) (key : List ℕ) (item : Item)
     → HoldsDues f s → f key ≡ Some item
     → sorted.contains due_cmp s (record { expiry = expiry item; key = key }) ≡ true
 has_pair f s key item holds there =

@@ -1,9 +1,11 @@
 -- A keeper whose listed calls fail, as contracts see it.
-use Rattle.std.specs.Prelude.{◌≡◌, ℕ, ◌+◌, ◌-◌, ◌^◌, List, min, Contains, Result, IsErrOf}
+use Rattle.std.specs.Prelude.{◌≡◌, ℕ, ◌+◌, ◌-◌, ◌^◌, List, Option, min, Contains, Result, IsErrOf}
 use Rattle.asp_base.specs.InMemory.{one_more}
+use Rattle.session_machine.specs.declared.item.Item.{Item}
 use Rattle.keeper.specs.Causes.{HasKeepCause}
 use Rattle.keeper.specs.declared.errors.KeepError.{KeepError}
 use Rattle.keeper.specs.declared.errors.KeepError.TheVariants.{Fault}
+use Rattle.keeper.specs.declared.keeping.Keeper.{Ghosts}
 
 -- The keeper that it wraps, how many calls were made, which of them fail, and how many did.
 pub record Wrapped (K : Type 0) : Type 0 where
@@ -16,13 +18,30 @@ pub record Wrapped (K : Type 0) : Type 0 where
 abbrev pub all_faults : ℕ → ℕ → ℕ
 all_faults own inner = min (own + inner) (2 ^ 64 - 1)
 
--- Each call is counted. A listed call fails, which is counted, and does not reach the keeper that
--- it wraps; every other call is that keeper's, with its causes.
-pub record FailsListed {K T : Type 0} (count : K → ℕ) (old new : Wrapped K)
-    (result : Result T KeepError) : Type 0 where
-  pub calls : new.calls ≡ one_more old.calls
-  pub fails : new.fails ≡ old.fails
-  pub listed : Contains old.fails old.calls → IsErrOf result Fault × (new.inner ≡ old.inner)
-      × (new.faults ≡ one_more old.faults)
-  pub other : ¬ Contains old.fails old.calls → (new.faults ≡ old.faults)
-      × HasKeepCause (count old.inner) (count new.inner) result
+module _ {K : Type 0} (G : Ghosts K) where
+  -- what the keeper that it wraps tells
+  abbrev pub told_inside : Wrapped K → Option (List ℕ → Option Item)
+  told_inside k = G.told k.inner
+
+  -- no call changes the floor of the keeper that it wraps
+  abbrev pub FloorStays : Wrapped K → Wrapped K → Type 0
+  FloorStays old new = G.floor new.inner ≡ G.floor old.inner
+
+  -- how often it and the keeper that it wraps failed
+  abbrev pub faults_of : Wrapped K → ℕ
+  faults_of k = all_faults k.faults (G.count k.inner)
+
+  -- a fault comes only where that count rose
+  abbrev pub HasCauseInAll : {T : Type 0} → Wrapped K → Wrapped K → Result T KeepError → Type 0
+  HasCauseInAll old new result = HasKeepCause (faults_of old) (faults_of new) result
+
+  -- Each call is counted. A listed call fails, which is counted, and does not reach the keeper that
+  -- it wraps; every other call is that keeper's, with its causes.
+  pub record FailsListed {T : Type 0} (old new : Wrapped K) (result : Result T KeepError)
+      : Type 0 where
+    pub calls : new.calls ≡ one_more old.calls
+    pub fails : new.fails ≡ old.fails
+    pub listed : Contains old.fails old.calls → IsErrOf result Fault × (new.inner ≡ old.inner)
+        × (new.faults ≡ one_more old.faults)
+    pub other : ¬ Contains old.fails old.calls → (new.faults ≡ old.faults)
+        × HasKeepCause (G.count old.inner) (G.count new.inner) result

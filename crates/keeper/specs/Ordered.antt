@@ -1,5 +1,5 @@
 -- Items in the order of their keys, and the set of the moments at which they expire.
-use Rattle.std.specs.Prelude.{◌≡◌, ℕ, List, Bool, false, nat_eq, Option, Some, None, IfSome}
+use Rattle.std.specs.Prelude.{◌≡◌, ℕ, List, Bool, true, false, nat_eq, Option, Some, None, IfSome, if◌then◌else◌}
 use Rattle.std.specs.Ordering.{nat_cmp, ordering_then}
 use Rattle.std.specs.Cmp.Lexicographic.{slice_cmp}
 use Rattle.std.specs.declared.cmp.Ordering.{Ordering}
@@ -30,9 +30,12 @@ abbrev pub HoldsDues : (List ℕ → Option Item) → BTreeSet Due → Type 0
 HoldsDues items dues =
     (due : Due) → contains due_cmp dues due ≡ expires_at (items due.key) due.expiry
 
--- the map has an item of this key, which expires at this moment
-abbrev pub IsDueOf : (List ℕ → Option Item) → Due → Type 0
-IsDueOf items due = (item : Item) × (items due.key ≡ Some item) × (expiry item ≡ due.expiry)
+-- the set has the key's pair of the second moment, and of the first only where both are one
+abbrev pub MovesDue : BTreeSet Due → BTreeSet Due → List ℕ → ℕ → ℕ → Type 0
+MovesDue old new key from to = (due : Due) → contains due_cmp new due
+    ≡ (if is_at (due_cmp (record { expiry = to; key = key })) due then true
+    else (if is_at (due_cmp (record { expiry = from; key = key })) due then false
+    else contains due_cmp old due))
 
 -- each key and each item is in range
 abbrev pub AllFit : (List ℕ → Option Item) → Type 0

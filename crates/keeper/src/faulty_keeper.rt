@@ -3,9 +3,8 @@ ghost use Rattle.std.specs.Prelude.{◌≡◌, ◌↔◌, ℕ, ◌<◌, ◌^◌,
 ghost use Rattle.asp_base.specs.InMemory.{one_more};
 ghost use Rattle.asp_messages.specs.Ranges.{KeyFits};
 ghost use Rattle.session_machine.specs.Liveness.{ItemFits};
-ghost use Rattle.keeper.specs.Causes.{HasKeepCause};
 ghost use Rattle.keeper.specs.Due.{TellsDue};
-ghost use Rattle.keeper.specs.Faulty.{FailsListed, all_faults};
+ghost use Rattle.keeper.specs.Faulty.{FailsListed, FloorStays, HasCauseInAll, faults_of, told_inside};
 ghost use Rattle.keeper.specs.Items.{TellsItem, TellsSets};
 
 use crate::{KeepError, Keeper};
@@ -70,11 +69,11 @@ impl<K> FaultyKeeper<K> {
 }
 
 impl<K: Keeper> Keeper for FaultyKeeper<K> {
-    ghost told = { λ k. K.told k.inner };
+    ghost told = { told_inside ⟦<K as Keeper>⟧ };
 
     ghost floor = { λ k. K.floor k.inner };
 
-    ghost count = { λ k. all_faults k.faults (K.count k.inner) };
+    ghost count = { faults_of ⟦<K as Keeper>⟧ };
 
     ghost can_count = { λ n. n < 2 ^ 64 };
 
@@ -84,13 +83,14 @@ impl<K: Keeper> Keeper for FaultyKeeper<K> {
 
     fn get(&mut self, key: &Bytes) -> Result<Option<Item>, KeepError>
         requires { KeyFits key.now }
-        ensures item { IfOk result (TellsItem (K.told self.old.inner) key.now) }
+        ensures item { IfOk result
+            (TellsItem (told_inside ⟦<K as Keeper>⟧ self.old) key.now) }
         ensures fits { IfOk result (λ item. IfSome item ItemFits) }
-        ensures same { K.told self.new.inner ≡ K.told self.old.inner }
-        ensures floor { K.floor self.new.inner ≡ K.floor self.old.inner }
-        ensures cause { HasKeepCause (all_faults self.old.faults (K.count self.old.inner))
-            (all_faults self.new.faults (K.count self.new.inner)) result }
-        ensures failing { FailsListed K.count self.old self.new result }
+        ensures same { told_inside ⟦<K as Keeper>⟧ self.new
+            ≡ told_inside ⟦<K as Keeper>⟧ self.old }
+        ensures floor { FloorStays ⟦<K as Keeper>⟧ self.old self.new }
+        ensures cause { HasCauseInAll ⟦<K as Keeper>⟧ self.old self.new result }
+        ensures failing { FailsListed ⟦<K as Keeper>⟧ self.old self.new result }
     {
         if self.fails_next() {
             return Err(KeepError::Fault);
@@ -102,12 +102,13 @@ impl<K: Keeper> Keeper for FaultyKeeper<K> {
         requires key { KeyFits key.now }
         requires item { ItemFits item }
         ensures ok { OnOk result
-            (TellsSets (K.told self.old.inner) (K.told self.new.inner) key.now (Some item)) }
-        ensures err { OnErr result (K.told self.new.inner ≡ K.told self.old.inner) }
-        ensures floor { K.floor self.new.inner ≡ K.floor self.old.inner }
-        ensures cause { HasKeepCause (all_faults self.old.faults (K.count self.old.inner))
-            (all_faults self.new.faults (K.count self.new.inner)) result }
-        ensures failing { FailsListed K.count self.old self.new result }
+            (TellsSets (told_inside ⟦<K as Keeper>⟧ self.old)
+            (told_inside ⟦<K as Keeper>⟧ self.new) key.now (Some item)) }
+        ensures err { OnErr result
+            (told_inside ⟦<K as Keeper>⟧ self.new ≡ told_inside ⟦<K as Keeper>⟧ self.old) }
+        ensures floor { FloorStays ⟦<K as Keeper>⟧ self.old self.new }
+        ensures cause { HasCauseInAll ⟦<K as Keeper>⟧ self.old self.new result }
+        ensures failing { FailsListed ⟦<K as Keeper>⟧ self.old self.new result }
     {
         if self.fails_next() {
             return Err(KeepError::Fault);
@@ -118,12 +119,13 @@ impl<K: Keeper> Keeper for FaultyKeeper<K> {
     fn cut(&mut self, key: &Bytes) -> Result<(), KeepError>
         requires { KeyFits key.now }
         ensures ok { OnOk result
-            (TellsSets (K.told self.old.inner) (K.told self.new.inner) key.now None) }
-        ensures err { OnErr result (K.told self.new.inner ≡ K.told self.old.inner) }
-        ensures floor { K.floor self.new.inner ≡ K.floor self.old.inner }
-        ensures cause { HasKeepCause (all_faults self.old.faults (K.count self.old.inner))
-            (all_faults self.new.faults (K.count self.new.inner)) result }
-        ensures failing { FailsListed K.count self.old self.new result }
+            (TellsSets (told_inside ⟦<K as Keeper>⟧ self.old)
+            (told_inside ⟦<K as Keeper>⟧ self.new) key.now None) }
+        ensures err { OnErr result
+            (told_inside ⟦<K as Keeper>⟧ self.new ≡ told_inside ⟦<K as Keeper>⟧ self.old) }
+        ensures floor { FloorStays ⟦<K as Keeper>⟧ self.old self.new }
+        ensures cause { HasCauseInAll ⟦<K as Keeper>⟧ self.old self.new result }
+        ensures failing { FailsListed ⟦<K as Keeper>⟧ self.old self.new result }
     {
         if self.fails_next() {
             return Err(KeepError::Fault);
@@ -132,13 +134,13 @@ impl<K: Keeper> Keeper for FaultyKeeper<K> {
     }
 
     fn due(&mut self, t: u64) -> Result<Option<Bytes>, KeepError>
-        ensures due { IfOk result (TellsDue (K.told self.old.inner) t) }
+        ensures due { IfOk result (TellsDue (told_inside ⟦<K as Keeper>⟧ self.old) t) }
         ensures fits { IfOk result (λ key. IfSome key KeyFits) }
-        ensures same { K.told self.new.inner ≡ K.told self.old.inner }
-        ensures floor { K.floor self.new.inner ≡ K.floor self.old.inner }
-        ensures cause { HasKeepCause (all_faults self.old.faults (K.count self.old.inner))
-            (all_faults self.new.faults (K.count self.new.inner)) result }
-        ensures failing { FailsListed K.count self.old self.new result }
+        ensures same { told_inside ⟦<K as Keeper>⟧ self.new
+            ≡ told_inside ⟦<K as Keeper>⟧ self.old }
+        ensures floor { FloorStays ⟦<K as Keeper>⟧ self.old self.new }
+        ensures cause { HasCauseInAll ⟦<K as Keeper>⟧ self.old self.new result }
+        ensures failing { FailsListed ⟦<K as Keeper>⟧ self.old self.new result }
     {
         if self.fails_next() {
             return Err(KeepError::Fault);

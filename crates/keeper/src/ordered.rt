@@ -1,10 +1,11 @@
 //! Items in the order of their keys, and the set of the moments at which they expire.
-ghost use Rattle.std.specs.Prelude.{◌≡◌, Some, None, IfOk, IfSome, IsOk, OnOk, OnErr};
+ghost use Rattle.std.specs.Prelude.{◌≡◌, Some, None, true, IfOk, IfSome, IsOk, OnOk, OnErr};
 ghost use Rattle.asp_messages.specs.Ranges.{KeyFits};
 ghost use Rattle.session_machine.specs.Liveness as liveness;
 ghost use Rattle.keeper.specs.Due.{TellsDue};
 ghost use Rattle.keeper.specs.Items.{Sets};
-ghost use Rattle.keeper.specs.Ordered.{AllFit, IsKept, IsDueOf, item_of};
+ghost use Rattle.keeper.specs.Ordered.{AllFit, IsKept, MovesDue, due_cmp, item_of};
+ghost use Rattle.std.specs.BTreeSet.{contains};
 
 use crate::dues::Due;
 use crate::items::{into_shared, share};
@@ -25,28 +26,27 @@ pub fn get(items: &BTreeMap<Bytes, Item>, key: &Bytes) -> Result<Option<Item>, N
     }
 }
 
-/// Gives a key that has an item another one. Only the set may want memory, which is had first.
-fn replace(
-    items: &mut BTreeMap<Bytes, Item>,
-    dues: &mut BTreeSet<Due>,
-    old: Due,
-    due: Due,
-    item: Item,
-) -> Result<(), NoMemory>
-    requires item { liveness.ItemFits item }
-    requires kept { IsKept items.old.entries dues.old }
-    requires old { IsDueOf (item_of items.old.entries) old }
-    requires due { due ≡ record { expiry = liveness.expiry item; key = old.key } }
-    ensures ok { OnOk result
-        (Sets (item_of items.old.entries) (item_of items.new.entries) old.key (Some item)) }
-    ensures err { OnErr result (items.new.entries ≡ items.old.entries) }
-    ensures kept { IsKept items.new.entries dues.new }
+/// Moves the pair of the key from one moment to another. The new pair goes in first: where there is
+/// no memory for it nothing has changed.
+fn reschedule(dues: &mut BTreeSet<Due>, key: &Bytes, from: u64, to: u64) -> Result<(), NoMemory>
+    requires { contains due_cmp dues.old (record { expiry = from; key = key.now }) ≡ true }
+    ensures ok { OnOk result (MovesDue dues.old dues.new key.now from to) }
+    ensures err { OnErr result (dues.new.keys ≡ dues.old.keys) }
 {
-    if old.expiry != due.expiry {
-        dues.insert(due)?;
-        dues.remove(&old);
+    if from == to {
+        return Ok(());
     }
-    items.insert(old.key, item)?;
+    let own = key.share()?;
+    let old = Due {
+        expiry: from,
+        key: own.share()?,
+    };
+    let new = Due {
+        expiry: to,
+        key: own,
+    };
+    dues.insert(new)?;
+    dues.remove(&old);
     Ok(())
 }
 
@@ -80,7 +80,8 @@ fn add(
     Ok(())
 }
 
-/// Gives the key this item.
+/// Gives the key this item. Where it has one the map is searched once, and the item is replaced in its
+/// place.
 pub fn put(
     items: &mut BTreeMap<Bytes, Item>,
     dues: &mut BTreeSet<Due>,
@@ -96,17 +97,11 @@ pub fn put(
     ensures kept { IsKept items.new.entries dues.new }
 {
     let item = into_shared(item)?;
-    match items.get_key_value(key) {
-        Some((own, there)) => {
-            let old = Due {
-                expiry: expiry(there),
-                key: own.share()?,
-            };
-            let due = Due {
-                expiry: expiry(&item),
-                key: own.share()?,
-            };
-            replace(items, dues, old, due, item)
+    match items.get_mut(key) {
+        Some(there) => {
+            reschedule(dues, key, expiry(there), expiry(&item))?;
+            *there = item;
+            Ok(())
         }
         None => add(items, dues, key, item),
     }
