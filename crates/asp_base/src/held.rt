@@ -1,7 +1,9 @@
 //! Bytes that are held, and read only by calls that count.
-ghost use Rattle.std.specs.Prelude.{◌≡◌, ◌<◌, ◌≤◌, ◌+◌, ◌++◌, [], length, take, drop, slice_index, IfOk, IsOk, OnOk, OnErr};
+ghost use Rattle.std.specs.Prelude.{◌≡◌, ◌<◌, ◌≤◌, ◌+◌, ◌++◌, [], length, take, drop, slice_index, IfOk, IsOk, OnOk, OnErr, MatchOption};
+ghost use Rattle.asp_base.specs.Places.{HasNone, IsFirstPlace};
 
 use crate::{Bytes, NoMemory, Steps};
+use memchr::memchr;
 use std::alloc::Global;
 use std::marker::Model;
 use std::mem::replace;
@@ -90,6 +92,30 @@ impl Held {
     {
         steps.add(1);
         self.bytes[self.start + at as usize]
+    }
+
+    /// The first place of the byte from `from` on and before `to`; `None` where it stands at none of
+    /// them. It counts a step for each byte up to that place, which is among them, or up to `to`.
+    pub fn find<L: Ledger>(&self, byte: u8, from: u64, to: u64, steps: &mut Steps<L>) -> Option<u64>
+        requires from { from ≤ to }
+        requires to { to ≤ length self.now }
+        ensures place { MatchOption result (HasNone byte self.now from to)
+            (λ place. IsFirstPlace byte self.now from to place) }
+        ensures steps { MatchOption result (steps.new + from ≡ steps.old + to)
+            (λ place. steps.new + from ≡ steps.old + place + 1) }
+    {
+        let bytes = &self.bytes[self.start + from as usize..self.start + to as usize];
+        match memchr(byte, bytes) {
+            Some(passed) => {
+                let passed = passed as u64;
+                steps.add(passed + 1);
+                Some(from + passed)
+            }
+            None => {
+                steps.add(to - from);
+                None
+            }
+        }
     }
 
     /// The first `n` bytes. It counts `n` steps.
