@@ -77,6 +77,26 @@ impl Held {
         Ok(())
     }
 
+    /// Makes room for `more` bytes, where there is memory for it, so that what is held doesn't move
+    /// as they are added. What is held stays the same.
+    pub fn make_room(&mut self, more: u64)
+        ensures { self.new ≡ self.old }
+    {
+        if self.start == 0 {
+            let _room = self.bytes.reserve_exact(more as usize);
+            return;
+        }
+        let left = &self.bytes[self.start..];
+        let room = left.len().saturating_add(more as usize);
+        let Ok(mut bytes) = Vec::with_capacity(self.alloc, room) else {
+            return;
+        };
+        if let Ok(()) = bytes.extend_from_slice(left) {
+            self.bytes = bytes;
+            self.start = 0;
+        }
+    }
+
     /// How many bytes are held.
     pub fn len(&self) -> u64
         ensures { result ≡ length self.now }
