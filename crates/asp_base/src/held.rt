@@ -1,7 +1,9 @@
 //! Bytes that are held, and read only by calls that count.
-ghost use Rattle.std.specs.Prelude.{◌≡◌, ◌<◌, ◌≤◌, ◌+◌, ◌++◌, [], length, take, drop, slice_index, IfOk, IsOk, OnOk, OnErr};
+ghost use Rattle.std.specs.Prelude.{◌≡◌, ◌<◌, ◌≤◌, ◌+◌, ◌++◌, [], length, take, drop, slice_index, IfOk, IsOk, OnOk, OnErr, MatchOption};
+ghost use Rattle.asp_base.specs.Places.{HasNone, IsFirstPlace};
 
 use crate::{Bytes, NoMemory, Steps};
+use memchr::memchr;
 use std::alloc::Global;
 use std::marker::Model;
 use std::mem::replace;
@@ -75,6 +77,26 @@ impl Held {
         Ok(())
     }
 
+    /// Makes room for `more` bytes, where there is memory for it, so that what is held doesn't move
+    /// as they are added. What is held stays the same.
+    pub fn make_room(&mut self, more: u64)
+        ensures { self.new ≡ self.old }
+    {
+        if self.start == 0 {
+            let _room = self.bytes.reserve_exact(more as usize);
+            return;
+        }
+        let left = &self.bytes[self.start..];
+        let room = left.len().saturating_add(more as usize);
+        let Ok(mut bytes) = Vec::with_capacity(self.alloc, room) else {
+            return;
+        };
+        if let Ok(()) = bytes.extend_from_slice(left) {
+            self.bytes = bytes;
+            self.start = 0;
+        }
+    }
+
     /// How many bytes are held.
     pub fn len(&self) -> u64
         ensures { result ≡ length self.now }
@@ -90,6 +112,30 @@ impl Held {
     {
         steps.add(1);
         self.bytes[self.start + at as usize]
+    }
+
+    /// The first place of the byte from `from` on and before `to`; `None` where it stands at none of
+    /// them. It counts a step for each byte up to that place, which is among them, or up to `to`.
+    pub fn find<L: Ledger>(&self, byte: u8, from: u64, to: u64, steps: &mut Steps<L>) -> Option<u64>
+        requires from { from ≤ to }
+        requires to { to ≤ length self.now }
+        ensures place { MatchOption result (HasNone byte self.now from to)
+            (λ place. IsFirstPlace byte self.now from to place) }
+        ensures steps { MatchOption result (steps.new + from ≡ steps.old + to)
+            (λ place. steps.new + from ≡ steps.old + place + 1) }
+    {
+        let bytes = &self.bytes[self.start + from as usize..self.start + to as usize];
+        match memchr(byte, bytes) {
+            Some(passed) => {
+                let passed = passed as u64;
+                steps.add(passed + 1);
+                Some(from + passed)
+            }
+            None => {
+                steps.add(to - from);
+                None
+            }
+        }
     }
 
     /// The first `n` bytes. It counts `n` steps.

@@ -1,4 +1,5 @@
 pub mod EndLemmas
 pub mod FieldLemmas
+pub mod LineLemmas
 pub mod SectionLemmas
 pub mod ReaderLemmas

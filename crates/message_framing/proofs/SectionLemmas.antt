@@ -27,7 +27,7 @@ no-feed test b fails passes = by_test (b == 10) refl
         let clash : ◌≡◌ {A = Bool} true false = sym passes ∙ ap test same ∙ fails in
         cc
 
-one-line : (b : ℕ) → (b == 10) ≡ false → after Line b ≡ Some Line
+pub one-line : (b : ℕ) → (b == 10) ≡ false → after Line b ≡ Some Line
 one-line b e = ap (λ t. cond t (Some Feed) (Some Line)) e
 
 -- bytes that stay in a line

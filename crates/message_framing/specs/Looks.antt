@@ -1,5 +1,5 @@
 -- What a look for the end of a head finds.
-use Rattle.std.specs.Prelude.{◌≡◌, ℕ, ◌≤◌, ◌+◌, min, List, length, take, Some}
+use Rattle.std.specs.Prelude.{◌≡◌, ℕ, ◌<◌, ◌≤◌, ◌+◌, min, List, length, take, Some}
 use Rattle.asp_messages.specs.Head.{most_head}
 use Rattle.message_framing.specs.declared.head_end.Look.{Look}
 use Rattle.message_framing.specs.declared.head_end.Look.TheVariants.{Ended, Open}
@@ -24,3 +24,9 @@ abbrev pub LooksOn : List ℕ → ℕ → Look → ℕ → Type 0
 LooksOn bytes from (Ended n) steps = IsEnded bytes n × (n ≡ from + steps)
 LooksOn bytes from (Open n phase) steps = IsOpen bytes n phase × (n ≡ from + steps)
     × (n ≡ min (length bytes) most_head)
+
+-- some bytes on from the first bytes, by so many steps, and no further than to this place
+abbrev pub LooksOnce : List ℕ → ℕ → ℕ → Look → ℕ → Type 0
+LooksOnce bytes from end (Ended n) steps = IsEnded bytes n × (n ≡ from + steps)
+LooksOnce bytes from end (Open n phase) steps = IsOpen bytes n phase × (n ≡ from + steps)
+    × (from < n) × (n ≤ end)

@@ -1,8 +1,8 @@
 //! Where a head ends: at its first empty line after its first byte that is neither carriage return
 //! nor line feed (RFC 7230, section 3).
-ghost use Rattle.std.specs.Prelude.{◌≡◌, ◌≤◌, ◌-◌, length, take, Some};
+ghost use Rattle.std.specs.Prelude.{◌≡◌, ◌<◌, ◌≤◌, ◌-◌, length, take, Some};
 ghost use Rattle.message_framing.specs.HeadEnd.{after, seen};
-ghost use Rattle.message_framing.specs.Looks.{LooksOn};
+ghost use Rattle.message_framing.specs.Looks.{LooksOn, LooksOnce};
 ghost use Rattle.asp_messages.specs.Head.{most_head};
 
 use asp_base::{Held, Steps};
@@ -74,6 +74,28 @@ fn after(phase: Phase, byte: u8) -> Option<Phase>
     }
 }
 
+/// Looks on from place `at`: over the rest of a line with its line feed, or else at one byte.
+fn look_once<L: Ledger>(held: &Held, at: u64, end: u64, phase: Phase, steps: &mut Steps<L>) -> Look
+    requires at { at < end }
+    requires end { end ≤ length held.now }
+    requires room { end ≤ most_head }
+    requires seen { seen Phase.Blank (take at held.now) ≡ Some phase }
+    ensures looks { LooksOnce held.now at end result (steps.new - steps.old) }
+    ensures rises { steps.old ≤ steps.new }
+{
+    if let Phase::Line = phase {
+        return match held.find(b'\n', at, end, steps) {
+            Some(place) => Look::Open(place + 1, Phase::Feed),
+            None => Look::Open(end, Phase::Line),
+        };
+    }
+    let byte = held.look(at, steps);
+    match after(phase, byte) {
+        Some(next) => Look::Open(at + 1, next),
+        None => Look::Ended(at + 1),
+    }
+}
+
 /// Looks on for the end of a head from the place where the last look stopped, at each byte once.
 pub fn look_on<L: Ledger>(held: &Held, from: u64, phase: Phase, steps: &mut Steps<L>) -> Look
     requires from { from ≤ length held.now }
@@ -86,11 +108,12 @@ pub fn look_on<L: Ledger>(held: &Held, from: u64, phase: Phase, steps: &mut Step
     let mut at = from;
     let mut phase = phase;
     while at < end {
-        let byte = held.look(at, steps);
-        at += 1;
-        match after(phase, byte) {
-            Some(next) => phase = next,
-            None => return Look::Ended(at),
+        match look_once(held, at, end, phase, steps) {
+            Look::Ended(len) => return Look::Ended(len),
+            Look::Open(len, then) => {
+                at = len;
+                phase = then;
+            }
         }
     }
     Look::Open(at, phase)

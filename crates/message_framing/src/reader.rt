@@ -20,6 +20,9 @@ pub const MOST_PIECE: usize = 16_384;
 /// The most bytes that a reader holds: a head, a body and a piece.
 pub const MOST_HELD: usize = 4_218_880;
 
+/// The least length of a body that gets its room at once, in bytes.
+const LARGE: u64 = 16_384;
+
 /// What a reader finds at the front of the bytes that it holds.
 #[derive(Drop)]
 pub enum Found<M> {
@@ -122,7 +125,14 @@ fn read<K: MessageKind, L: Ledger>(
     room.clear();
     room.reserve(len as usize)?;
     match K::begin(room, held.front(len, steps)) {
-        Some(begun) => *state = State::Read(len, begun),
+        Some(begun) => {
+            let wanted = begun.body_len;
+            let there = held.len() - len;
+            if wanted >= LARGE && there < wanted {
+                held.make_room(wanted - there + MOST_PIECE as u64);
+            }
+            *state = State::Read(len, begun);
+        }
         None => {
             *held = Held::new(alloc);
             *state = State::Broken(2 * len);
