@@ -9,23 +9,9 @@ use Rattle.asp_messages.specs.declared.reply.Reply.TheVariants as replies
 use Rattle.asp_messages.specs.Ranges.{AskFits, ReplyFits}
 use Rattle.session_machine.specs.declared.item.Item.{Item}
 use Rattle.session_machine.specs.declared.item.Hold.{Hold}
-use Rattle.session_machine.specs.declared.decision.Kind.{Kind}
-use Rattle.session_machine.specs.declared.decision.Kind.TheVariants as kinds
 use Rattle.session_machine.specs.Liveness.{ItemFits, seen, is_live, age}
 use Rattle.session_machine.specs.Machine.{Effect, on_absent, on_free, on_held, on_there, on_seen, effect, Circumstances, Step}
-use Rattle.session_machine.specs.Verdicts.{reply_of}
 use Rattle.session_machine.specs.History.{DrawFits, HasPlace, after_reply}
-
--- a verdict's reply is none that the machine gives besides
-pub verdict_steps : (kind : Kind) (item old new : Option Item) (ask : Ask) (at : Circumstances)
-    → (reply_of kind item, new) ≡ effect old at.moment at.drawn ask
-    → Step old ask at (reply_of kind item) new
-verdict_steps (kinds.Found cookie first) (Some it) old new ask at h = h
-verdict_steps (kinds.Found cookie first) None old new ask at h = h
-verdict_steps kinds.Done item old new ask at h = h
-verdict_steps (kinds.Locked cookie a) item old new ask at h = h
-verdict_steps kinds.Missing item old new ask at h = h
-verdict_steps kinds.CookiesOut item old new ask at h = h
 
 -- the state after a step is the one that its reply fixes
 pub Step-fixes : (old new : Option Item) (ask : Ask) (at : Circumstances) (reply : Reply)
@@ -246,7 +232,7 @@ on_seen-fits None t drawn ask le small some fits asks = absent-fits t ask le ask
 on_seen-fits (Some item) t drawn ask le small some fits asks =
     there-fits item item.holder t drawn ask refl le small some fits asks
 
--- a effect is in range
+-- an effect is in range
 pub effect-fits : (old : Option Item) (t drawn : ℕ) (ask : Ask) → t ≤ 2 ^ 62 → drawn < 2 ^ 63
     → IfSome old ItemFits → AskFits ask → EffectFits (effect old t drawn ask)
 effect-fits old t drawn Acquire le small fits asks = by_draw (drawn == 0) refl
@@ -268,26 +254,3 @@ effect-fits old t drawn (Remove cookie) le small fits asks =
     on_seen-fits (seen old t) t drawn (Remove cookie) le small (λ e. cc) (seen-fits old t fits) asks
 effect-fits old t drawn Reset le small fits asks =
     on_seen-fits (seen old t) t drawn Reset le small (λ e. cc) (seen-fits old t fits) asks
-
--- so is a step
-pub Step-fits : (old new : Option Item) (ask : Ask) (at : Circumstances) (reply : Reply)
-    → at.moment ≤ 2 ^ 62 → at.drawn < 2 ^ 63 → IfSome old ItemFits → AskFits ask
-    → Step old ask at reply new → EffectFits (reply, new)
-Step-fits old new ask at replies.NoMemory le small fits asks h =
-    (tt, tt, subst (λ o. IfSome o ItemFits) (sym h) fits)
-Step-fits old new ask at replies.KeeperFault le small fits asks h =
-    (tt, tt, subst (λ o. IfSome o ItemFits) (sym h.1) fits)
-Step-fits old new ask at (replies.Found body minutes cookie first) le small fits asks h =
-    subst EffectFits (sym h) (effect-fits old at.moment at.drawn ask le small fits asks)
-Step-fits old new ask at replies.Done le small fits asks h =
-    subst EffectFits (sym h) (effect-fits old at.moment at.drawn ask le small fits asks)
-Step-fits old new ask at (replies.Locked cookie a) le small fits asks h =
-    subst EffectFits (sym h) (effect-fits old at.moment at.drawn ask le small fits asks)
-Step-fits old new ask at replies.Missing le small fits asks h =
-    subst EffectFits (sym h) (effect-fits old at.moment at.drawn ask le small fits asks)
-Step-fits old new ask at replies.Bad le small fits asks h =
-    subst EffectFits (sym h) (effect-fits old at.moment at.drawn ask le small fits asks)
-Step-fits old new ask at replies.CookiesOut le small fits asks h =
-    subst EffectFits (sym h) (effect-fits old at.moment at.drawn ask le small fits asks)
-Step-fits old new ask at replies.PlacesOut le small fits asks h =
-    subst EffectFits (sym h) (effect-fits old at.moment at.drawn ask le small fits asks)
