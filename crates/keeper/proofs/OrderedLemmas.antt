@@ -1,5 +1,5 @@
 -- Items in the order of their keys, and the set of the moments at which they expire.
-use Rattle.std.proofs.Common.{◌≡◌, ℕ, ◌<◌, ◌≤◌, Bool, true, false, cond, List, [], ◌∷◌, length, Some, None, Option, refl, sym, ap, ◌∙◌, arith, subst, inl, inr}
+use Rattle.std.proofs.Common.{◌≡◌, ◌≢◌, ℕ, ◌<◌, ◌≤◌, Bool, true, false, cond, List, [], ◌∷◌, length, Some, None, Option, refl, sym, ap, ◌∙◌, arith, subst, inl, inr}
 use Rattle.std.specs.Prelude.{◌&&◌, nat_eq, IfSome, IsTrue}
 use Rattle.std.specs.List.{list_any}
 use Rattle.std.specs.Str.{bytes_eq}
@@ -235,6 +235,30 @@ MovesDue-same s key from to same there q =
         ∙ ap (λ (k : List ℕ). sorted.contains due_cmp s (record { expiry = q.expiry; key = k }))
         (at_key-same key q.key parts.1)) ∙ there
     by_test false at = refl
+
+swapped : (x y c : Bool) → (x ≡ true → y ≡ true → ⊥)
+    → cond x false (cond y true c) ≡ cond y true (cond x false c)
+swapped true true c apart = absurd (apart refl refl)
+swapped true false c apart = refl
+swapped false true c apart = refl
+swapped false false c apart = refl
+
+-- the pair of the one moment was put in, and then that of the other taken out
+pub MovesDue-apart : (s u t : BTreeSet Due) (key : List ℕ) (from to : ℕ) → from ≢ to
+    → sorted.Updates due_cmp s u (record { expiry = to; key = key }) true
+    → sorted.Updates due_cmp u t (record { expiry = from; key = key }) false
+    → MovesDue s t key from to
+MovesDue-apart s u t key from to apart adds takes q =
+    takes.0 q ∙ ap (λ b. cond (found from) false b) (adds.0 q)
+    ∙ swapped (found from) (found to) (sorted.contains due_cmp s q)
+    (λ at other. apart (moment from at ∙ sym (moment to other)))
+  where
+    found : ℕ → Bool
+    found m = is_at (due_cmp (record { expiry = m; key = key })) q
+
+    moment : (m : ℕ) → found m ≡ true → m ≡ q.expiry
+    moment m at = eqb-true m q.expiry (both_true (nat_eq m q.expiry) (at_key key q.key)
+        (sym (due_at (record { expiry = m; key = key }) q) ∙ at)).0
 
 -- nothing changed
 pub IsKept-unchanged : (m n : BTreeMap (List ℕ) Item) (s t : BTreeSet Due) → n.entries ≡ m.entries

@@ -80,8 +80,7 @@ fn add(
     Ok(())
 }
 
-/// Gives the key this item. Where it has one the map is searched once, and the item is replaced in its
-/// place.
+/// Gives the key this item. Where it has one, one search finds it, and it is replaced in its place.
 pub fn put(
     items: &mut BTreeMap<Bytes, Item>,
     dues: &mut BTreeSet<Due>,

@@ -125,7 +125,8 @@ const IN_ORDER: [(Step, Result<bool, KeepError>); 14] = [
     (Step::Faults(0), Ok(true)),
 ];
 
-// A touch moves an item behind those that were touched before it.
+// A touch moves an item behind those that were touched before it: a set ordered by the keys first,
+// or whose greatest is taken, has `a` at its end where `b` is due.
 const TOUCHED: [(Step, Result<bool, KeepError>); 13] = [
     (Step::Put(b'a', b'x', 0), Ok(true)),
     (Step::Put(b'c', b'z', 1), Ok(true)),
