@@ -1,5 +1,5 @@
 -- The bytes of content, whichever form it has.
-use Rattle.std.specs.Prelude.{ℕ, ◌≤◌, List, take, ⊤}
+use Rattle.std.specs.Prelude.{ℕ, ◌≤◌, List, length, take, drop}
 use Rattle.std.specs.Arc.{arc_value}
 use Rattle.asp_base.specs.declared.bytes.Form.{Form}
 use Rattle.asp_base.specs.declared.bytes.Form.TheVariants.{Short, Alone, Shared}
@@ -7,11 +7,11 @@ use Rattle.asp_base.specs.declared.bytes.Form.TheVariants.{Short, Alone, Shared}
 -- the bytes, which lie in the value, or which one owner or several have
 abbrev pub bytes_of : Form → List ℕ
 bytes_of (Short bytes len) = take len bytes
-bytes_of (Alone bytes) = bytes.items
-bytes_of (Shared bytes) = (arc_value bytes).items
+bytes_of (Alone bytes skipped) = drop skipped bytes.items
+bytes_of (Shared bytes skipped) = drop skipped (arc_value bytes).items
 
--- the array has the bytes that it is to have
+-- there are as many bytes as are taken or skipped
 abbrev pub IsForm : Form → Type 0
 IsForm (Short bytes len) = len ≤ 30
-IsForm (Alone bytes) = ⊤
-IsForm (Shared bytes) = ⊤
+IsForm (Alone bytes skipped) = skipped ≤ length bytes.items
+IsForm (Shared bytes skipped) = skipped ≤ length (arc_value bytes).items

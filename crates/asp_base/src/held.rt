@@ -12,6 +12,9 @@ use std::sync::ledger::Ledger;
 /// The least length of a body that `split` takes with the vector that it lies in, in bytes.
 const LARGE: u64 = 16_384;
 
+/// The most bytes that stay before a large body in its vector.
+const MOST_SKIPPED: usize = 1_024;
+
 /// Bytes that are added at the end and taken off the front. Contracts see those that are held. They
 /// can be read only by calls that count each byte that they read.
 #[derive(Debug, Drop)]
@@ -31,14 +34,15 @@ impl Model for Held {
     ghost invariant = { λ h. h.start ≤ length h.bytes.items };
 }
 
-/// Drops the bytes before `start`, where there are any. It takes no memory, and costs the bytes
-/// from `start` on.
+/// Drops the bytes before `start`, where there are more than may stay with a body. It takes no
+/// memory, and costs the bytes from `start` on then.
 fn compact(bytes: &mut Vec<u8>, start: &mut usize)
     requires { start.old ≤ length bytes.old.items }
-    ensures start { start.new ≡ 0 }
-    ensures bytes { bytes.new.items ≡ drop start.old bytes.old.items }
+    ensures start { start.new ≤ 1_024 }
+    ensures within { start.new ≤ length bytes.new.items }
+    ensures bytes { drop start.new bytes.new.items ≡ drop start.old bytes.old.items }
 {
-    if *start > 0 {
+    if *start > MOST_SKIPPED {
         let left = bytes.len() - *start;
         bytes.copy_within(*start.., 0);
         bytes.truncate(left);
@@ -149,8 +153,8 @@ impl Held {
     }
 
     /// Takes `head` bytes and then `body` bytes off the front, and gives the latter. It counts no
-    /// step. A large body is not copied: it keeps the memory in which it came, and what is left
-    /// gets its own. The only error is want of memory, never where `body` is 0, and nothing has
+    /// step. A large body is not copied: it keeps the memory in which it came, with its head where
+    /// that is short, and what is left gets its own. The only error is want of memory, never where `body` is 0, and nothing has
     /// changed then.
     pub fn split(&mut self, head: u64, body: u64) -> Result<Bytes, NoMemory>
         requires { head + body ≤ length self.old }
@@ -173,8 +177,8 @@ impl Held {
         let left = Vec::from_slice(self.alloc, &self.bytes[to..])?;
         let mut bytes = replace(&mut self.bytes, left);
         self.start = 0;
+        bytes.truncate(to);
         compact(&mut bytes, &mut from);
-        bytes.truncate(body as usize);
-        Ok(Bytes::adopt(bytes))
+        Ok(Bytes::adopt_behind(bytes, from as u32))
     }
 }
