@@ -118,8 +118,8 @@ impl Held {
         self.bytes[self.start + at as usize]
     }
 
-    /// The first place of the byte from `from` on and before `to`; `None` where it stands at none of
-    /// them. It counts a step for each byte up to that place, which is among them, or up to `to`.
+    /// The first place of the byte from `from` on and before `to`; `None` where it has none there.
+    /// It counts a step for each byte up to that place, which is among them, or up to `to`.
     pub fn find<L: Ledger>(&self, byte: u8, from: u64, to: u64, steps: &mut Steps<L>) -> Option<u64>
         requires from { from ≤ to }
         requires to { to ≤ length self.now }
@@ -154,8 +154,8 @@ impl Held {
 
     /// Takes `head` bytes and then `body` bytes off the front, and gives the latter. It counts no
     /// step. A large body is not copied: it keeps the memory in which it came, with its head where
-    /// that is short, and what is left gets its own. The only error is want of memory, never where `body` is 0, and nothing has
-    /// changed then.
+    /// that is short, and what is left gets its own. The only error is want of memory, never where
+    /// `body` is 0, and nothing has changed then.
     pub fn split(&mut self, head: u64, body: u64) -> Result<Bytes, NoMemory>
         requires { head + body ≤ length self.old }
         ensures body { IfOk result (λ bytes. bytes ≡ take body (drop head self.old)) }
