@@ -7,6 +7,7 @@ ghost use Rattle.message_framing.specs.declared.head_end.Phase.TheVariants.{Blan
 ghost use Rattle.message_framing.specs.HeadEnd.{seen, EndsHead};
 
 use asp_base::Bytes;
+use httparse::spans::HeaderSpan;
 
 /// A message whose head was read, and whose body is still to come.
 #[derive(Drop)]
@@ -37,8 +38,12 @@ pub trait MessageKind {
     /// Reads a head that ends with the text, of at most 8,192 bytes: the message that it begins.
     /// `None` where no message begins with it. `room` is empty and has room for as many bytes as
     /// the text has: what the message keeps of the head is put there, and may be taken out with
-    /// the vector's memory. It takes no other memory.
-    fn begin(room: &mut Vec<u8>, text: &[u8]) -> Option<Begun<Self::Message>>
+    /// the vector's memory. It takes no other memory. `headers` are overwritten.
+    fn begin(
+        room: &mut Vec<u8>,
+        headers: &mut [HeaderSpan; 64],
+        text: &[u8],
+    ) -> Option<Begun<Self::Message>>
         requires empty { room.old.items ≡ [] }
         requires room { length text.now ≤ vec_capacity room.old }
         requires short { length text.now ≤ most_head }

@@ -9,6 +9,7 @@ ghost use Rattle.message_framing.specs.Held.{Reading, empty_reader, fed, waiting
 use crate::head_end::{Look, MOST_HEAD, Phase, look_on};
 use crate::kind::{Begun, MessageKind};
 use asp_base::{Held, NoMemory, Steps};
+use httparse::spans::{EMPTY_HEADER_SPAN, HeaderSpan};
 use std::alloc::Global;
 use std::marker::{Brand, Model};
 use std::mem::replace;
@@ -56,6 +57,7 @@ pub struct MessageReader<K: MessageKind> {
     alloc: Global,
     held: Held,
     room: Vec<u8>,
+    spans: [HeaderSpan; 64],
     state: State<K::Message>,
     may_feed: bool,
 }
@@ -94,12 +96,13 @@ fn look<K: MessageKind, L: Ledger>(held: &Held, state: &mut State<K::Message>, s
     }
 }
 
-/// Reads the head whose end was found, with `room` for what the message keeps of it. After
-/// `NoMemory` nothing has changed.
+/// Reads the head whose end was found, with `room` for what the message keeps of it and `spans` for
+/// where its fields lie. After `NoMemory` nothing has changed.
 fn read<K: MessageKind, L: Ledger>(
     alloc: Global,
     held: &mut Held,
     room: &mut Vec<u8>,
+    spans: &mut [HeaderSpan; 64],
     state: &mut State<K::Message>,
     steps: &mut Steps<L>,
 ) -> Result<(), NoMemory>
@@ -124,7 +127,7 @@ fn read<K: MessageKind, L: Ledger>(
     };
     room.clear();
     room.reserve(len as usize)?;
-    match K::begin(room, held.front(len, steps)) {
+    match K::begin(room, spans, held.front(len, steps)) {
         Some(begun) => {
             let wanted = begun.body_len;
             let there = held.len() - len;
@@ -201,6 +204,7 @@ impl<K: MessageKind> MessageReader<K> {
             alloc,
             held: Held::new(alloc),
             room: Vec::new(alloc),
+            spans: [EMPTY_HEADER_SPAN; 64],
             state: State::Looking(0, Phase::Blank),
             may_feed: true,
         }
@@ -262,6 +266,7 @@ impl<K: MessageKind> MessageReader<K> {
             self.alloc,
             &mut self.held,
             &mut self.room,
+            &mut self.spans,
             &mut self.state,
             steps,
         ) else {

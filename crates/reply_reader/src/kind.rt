@@ -12,7 +12,7 @@ use crate::reply::reply;
 use asp_base::Bytes;
 use asp_messages::Reply;
 use httparse::Status;
-use httparse::spans::{EMPTY_HEADER_SPAN, HeaderSpan, ResponseSpans, parse_response};
+use httparse::spans::{HeaderSpan, ResponseSpans, parse_response};
 use message_framing::{Begun, MessageKind, body_length};
 
 /// Replies.
@@ -57,9 +57,12 @@ impl MessageKind for Replies {
 
     ghost waits_for_body = { waits_for_body };
 
-    fn begin(room: &mut Vec<u8>, text: &[u8]) -> Option<Begun<ReplyMessage>> {
-        let mut headers = [EMPTY_HEADER_SPAN; 64];
-        let (spans, body_len) = parse(text, &mut headers)?;
+    fn begin(
+        room: &mut Vec<u8>,
+        headers: &mut [HeaderSpan; 64],
+        text: &[u8],
+    ) -> Option<Begun<ReplyMessage>> {
+        let (spans, body_len) = parse(text, headers)?;
         let alloc = *room.allocator();
         let message = match reply(alloc, spans.code, text, &headers[..spans.headers]) {
             Some(reply) => ReplyMessage::Reply(reply),

@@ -11,7 +11,7 @@ use crate::request::message;
 use asp_base::Bytes;
 use asp_messages::{Ask, Message, Request};
 use httparse::Status;
-use httparse::spans::{EMPTY_HEADER_SPAN, HeaderSpan, RequestSpans, parse_request};
+use httparse::spans::{HeaderSpan, RequestSpans, parse_request};
 use message_framing::{Begun, MessageKind, body_length};
 
 /// Requests.
@@ -56,9 +56,12 @@ impl MessageKind for Requests {
 
     ghost waits_for_body = { waits_for_body };
 
-    fn begin(room: &mut Vec<u8>, text: &[u8]) -> Option<Begun<Message>> {
-        let mut headers = [EMPTY_HEADER_SPAN; 64];
-        let (spans, body_len) = parse(text, &mut headers)?;
+    fn begin(
+        room: &mut Vec<u8>,
+        headers: &mut [HeaderSpan; 64],
+        text: &[u8],
+    ) -> Option<Begun<Message>> {
+        let (spans, body_len) = parse(text, headers)?;
         Some(Begun {
             message: message(
                 room,
