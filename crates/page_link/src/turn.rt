@@ -1,6 +1,7 @@
 //! One turn of a visit.
-ghost use Rattle.std.specs.Prelude.{◌≡◌, ◌≤◌, ◌^◌, false, Some, IfSome, IfNone};
+ghost use Rattle.std.specs.Prelude.{◌≡◌, ◌≤◌, ◌^◌, ℕ, false, Some, IfSome, IfNone};
 ghost use Rattle.asp_base.specs.Causes.{Rose};
+ghost use Rattle.asp_base.specs.Moments.{GivesMoment};
 ghost use Rattle.visit_core.specs.declared.act.Ending.{Ending};
 ghost use Rattle.visit_core.specs.declared.outcome.Outcome.TheVariants.{LinkFault};
 ghost use Rattle.page_link.specs.declared.visit_end.VisitEnd.TheVariants.{Over};
@@ -41,6 +42,9 @@ pub fn take_turn<R: HostTime, L: Link, C: Clock>(
           clock =
               C.told clock.new;
         }) ending.new client.new.reader.bytes.held) }
+
+    // A turn that leaves the visit underway has read the clock once.
+    ensures read { IfNone result ((now : ℕ) × GivesMoment (C.told clock.old) (C.told clock.new) now) }
     ensures whole { IfNone result (client.new.reader.bytes.is_broken ≡ false) }
     ensures end { IfSome result (λ end. (page : Ending) (before : Scene)
         → IsUnderway page before (record {

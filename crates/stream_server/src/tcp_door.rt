@@ -1,5 +1,5 @@
 //! A door over a listener: the trusted edge.
-ghost use Rattle.std.specs.Prelude.{◌≡◌, ⊤, IfOk, IfSome, IfNone, OnOk, OnErr};
+ghost use Rattle.std.specs.Prelude.{◌≡◌, ◌<◌, ◌+◌, ⊤, IfOk, IfSome, IfNone, OnOk, OnErr};
 ghost use Rattle.asp_base.specs.Causes.{Rose};
 ghost use Rattle.stream_server.specs.Doors.{untold};
 
@@ -33,7 +33,10 @@ pub struct TcpDoor<'a> {
 
 impl<'a> TcpDoor<'a> {
     /// A door that hands out so many connections of the listener, and has counted no failure.
-    pub fn new(listener: &'a TcpListener, connections: u64) -> TcpDoor<'a> {
+    pub fn new(listener: &'a TcpListener, connections: u64) -> TcpDoor<'a>
+        ensures left { result.left ≡ connections }
+        ensures faults { result.faults ≡ 0 }
+    {
         TcpDoor {
             listener,
             left: connections,
@@ -113,6 +116,11 @@ impl Door for TcpDoor<'_> {
         ensures failed { OnErr result (untold ≡ untold) }
         ensures cause { OnErr result (Rose self.old.faults self.new.faults) }
         ensures count { OnOk result (self.new.faults ≡ self.old.faults) }
+
+        // It hands out so many connections, and ends and never fails after them.
+        ensures one_less { IfOk result (λ o. IfSome o (λ _. self.new.left + 1 ≡ self.old.left)) }
+        ensures ends { IfOk result (λ o. IfNone o ((self.old.left ≡ 0) × (self.new.left ≡ 0))) }
+        ensures fails { OnErr result ((0 < self.old.left) × (self.new.left ≡ self.old.left)) }
     {
         if self.left == 0 {
             return Ok(None);
@@ -133,6 +141,7 @@ impl Door for TcpDoor<'_> {
     fn done(&mut self, conn: Conn<HostSource<TcpStream>, HostSink<TcpStream>>, _end: StreamEnd)
         ensures back { ⊤ }
         ensures count { self.new.faults ≡ self.old.faults }
+        ensures left { self.new.left ≡ self.old.left }
     {
         if let Some(socket) = self.open.take() {
             close(&socket);

@@ -107,3 +107,12 @@ returns-in-Ok-clause-on g c page before run =
     c.heard.ensures.terms
     (λ past stands. c.heard.ensures.past past c.in-Send.request.now stands
     (sym (c.in-Send.ensures.act past stands))) c.heard.ensures.steps c.in-Send.ensures.act
+
+pub returns-in-WaitUntil-clause-read : goal.returns-in-WaitUntil-clause-read
+returns-in-WaitUntil-clause-read g c = (c.now-now.result, c.now-now.ensures.gives)
+
+pub returns-in-Some-clause-read : goal.returns-in-Some-clause-read
+returns-in-Some-clause-read g c = (c.now-now.result, c.now-now.ensures.gives)
+
+pub returns-in-Ok-clause-read : goal.returns-in-Ok-clause-read
+returns-in-Ok-clause-read g c = (c.now-now.result, c.now-now.ensures.gives)
