@@ -19,9 +19,10 @@ use Rattle.visit_core.specs.declared.act.Heard.TheVariants.{Reply}
 use Rattle.visit_core.specs.Rule.{Event, heard, ask_for, IsLawful, MeetsOldLock}
 use Rattle.visit_core.specs.Terms.{Terms}
 use Rattle.visit_core.proofs.ReleaseLemmas.{releases}
+use Rattle.keeper.specs.declared.keeping.Keeper.{Ghosts}
 use Rattle.page_script.specs.declared.script.Script.{Script}
 use Rattle.page_script.specs.World.{Page, Turn, World, history, entry_of, event_of, turns_of, is_heard, IsLawfulPage, IsLawfulWorld, MetOldLock, ForcesOldLocks}
-use Rattle.page_script.specs.Standing.{PagesStand, Stands, IfTold, keeper_of}
+use Rattle.page_script.specs.Standing.{PagesStand, Stands, IfTold, IfTells, keeper_of}
 use Rattle.page_script.proofs.PlaceLemmas.{held-at}
 
 -- ---- the place of a page's last answer
@@ -158,9 +159,8 @@ if-legal : (list : List Entry) (told : Option (List ℕ → Option Item)) (P : T
 if-legal list None P tells f = tt
 if-legal list (Some items) P tells f = f tells.0
 
-module _ {K : Type 0} (CanCount : ℕ → Type 0) (told : K → Option (List ℕ → Option Item))
-    (count : K → ℕ) (script : Script K) (world : World)
-    (stands : Stands CanCount told count script world)
+module _ {K : Type 0} (G : Ghosts K) (script : Script K) (world : World)
+    (stands : Stands G script world)
   where
     pub lawful : IsLawfulWorld world
     lawful before page behind place =
@@ -173,6 +173,6 @@ module _ {K : Type 0} (CanCount : ℕ → Type 0) (told : K → Option (List ℕ
           own = there.1.own;
         }
 
-    pub forced : IfTold (told (keeper_of script)) (ForcesOldLocks world)
-    forced = if-legal (history world.turns) (told (keeper_of script)) (ForcesOldLocks world)
+    pub forced : IfTells G script (ForcesOldLocks world)
+    forced = if-legal (history world.turns) (G.told (keeper_of script)) (ForcesOldLocks world)
         stands.desk.stands.stands.told_is (λ legal. forces world legal lawful)

@@ -13,8 +13,7 @@ use Rattle.page_script.specs.declared.script.Script.{Script}
 use Rattle.page_script.specs.declared.script_page.ScriptPage.{ScriptPage}
 use Rattle.page_script.specs.Places.{IsUnused}
 use Rattle.page_script.specs.World.{Page, Turn, World, Added, Performs, step_line, with_events, turns_of, new_page, most_pages}
-use Rattle.desk.specs.Standing.{state_of}
-use Rattle.page_script.specs.Standing.{PageAtDesk, PageStands, PagesStand, Steps, EachSteps, EachMayStep, Stays, Stands, WorldTakes}
+use Rattle.page_script.specs.Standing.{PageAtDesk, PageStands, PagesStand, Steps, state_of, EachSteps, EachMayStep, Stays, Stands, WorldTakes}
 use Rattle.page_script.proofs.PlaceLemmas.{All-append, All-more, turns_of-none, PagesStand-length, IsFound, found, PagesStand-push, unused-no_name}
 
 -- a step asks only in its own page's name
@@ -31,7 +30,7 @@ asked-own (over outcome) t number ending turns adds acts =
     subst (AllByRecursion (λ (turn : Turn). turn.page ≡ number)) (sym acts.1) tt
 
 module _ {K : Type 0} (G : Ghosts K) (script script' : Script K) (world : World)
-    (stands : Stands G.can_count G.told G.count script world)
+    (stands : Stands G script world)
   where
     -- a page that was named
     pub page-taken : (line : PageLine) (held : ScriptPage) → IsUnused script.pages.items line.name
@@ -39,8 +38,8 @@ module _ {K : Type 0} (G : Ghosts K) (script script' : Script K) (world : World)
         → script'.pages.items ≡ script.pages.items ++ held ∷ []
         → ((number : ℕ) (turns : List Turn) → turns_of number turns ≡ []
         → PageStands turns number held (new_page script.limits line))
-        → script'.limits ≡ script.limits → state_of G.told G.count script'.desk
-        ≡ state_of G.told G.count script.desk
+        → script'.limits ≡ script.limits → state_of G script'.desk
+        ≡ state_of G script.desk
         → WorldTakes G script' world (lines.Page line) (λ printed. printed ≡ [])
     page-taken line held unused room items new limits desk = record {
       world' = record world { pages = world.pages ++ page ∷ [] };
@@ -86,7 +85,7 @@ module _ {K : Type 0} (G : Ghosts K) (script script' : Script K) (world : World)
     -- limits for the pages to come
     pub limits-taken : (limits : Limits) (out : List ℕ) → script'.limits ≡ limits
         → script'.pages.items ≡ script.pages.items
-        → state_of G.told G.count script'.desk ≡ state_of G.told G.count script.desk
+        → state_of G script'.desk ≡ state_of G script.desk
         → WorldTakes G script' world (lines.Limits limits)
         (λ printed. out ≡ out ++ printed)
     limits-taken limits out is items desk = record {
@@ -111,7 +110,7 @@ module _ {K : Type 0} (G : Ghosts K) (script script' : Script K) (world : World)
       where
         -- the page of the script, with the desk of a script
         abbrev at_desk : ScriptPage → Script K → PageAtDesk
-        at_desk page script = record { page = page; desk = state_of G.told G.count script.desk }
+        at_desk page script = record { page = page; desk = state_of G script.desk }
 
         at : 0 + n ≡ n
         at = omega arith
@@ -188,7 +187,7 @@ module _ {K : Type 0} (G : Ghosts K) (script script' : Script K) (world : World)
         -- nothing has changed
         step-stayed : Stays G.can_count
             (record { turns = world.turns; number = n; page = there.page })
-            (at_desk held' script') → Stands G.can_count G.told G.count script' world
+            (at_desk held' script') → Stands G script' world
         step-stayed stays = record {
           limits = limits ∙ stands.limits;
           pages =
@@ -204,7 +203,7 @@ module _ {K : Type 0} (G : Ghosts K) (script script' : Script K) (world : World)
         }
 
         pub may-taken : EachMayStep G.can_count t (at_desk held script) (at_desk held' script')
-            → Stands G.can_count G.told G.count script' world
+            → Stands G script' world
             ⊎ WorldTakes G script' world (lines.Step t name) (λ printed. ⊤)
         may-taken each = elim (each n world.turns there.page there.stands stands.desk) [
           | inl stays ↦ inl (step-stayed stays)

@@ -8,7 +8,7 @@ use Rattle.asp_messages.specs.Fields.{most_cookie}
 use Rattle.session_machine.specs.declared.item.Item.{Item}
 use Rattle.session_machine.specs.History.{nothing}
 use Rattle.keeper.specs.declared.keeping.Keeper.{Ghosts}
-use Rattle.desk.specs.Standing.{DeskState, DeskStandsFor, state_of}
+use Rattle.desk.specs.Standing.{DeskOf, DeskState, DeskStandsFor, state_of as desk_state}
 use Rattle.visit_core.specs.Rule.{Event, act_of, has_ended}
 use Rattle.visit_core.specs.Stages.{HasPast}
 use Rattle.page_script.specs.declared.line.Line.{Line}
@@ -19,11 +19,20 @@ use Rattle.page_script.specs.World.{Page, Turn, World, history, event_of, drawn_
 
 -- ---- the desk
 
+-- what contracts see of a desk, over a keeper of the type: what the keeper tells, how many faults it
+-- has counted, and the cookies that are left
+abbrev pub state_of : {K : Type 0} → Ghosts K → DeskOf K → DeskState
+state_of G desk = desk_state G.told G.count desk
+
 -- The desk stands for the history of the turns, with the cookies from 1 to the last there is.
 -- (CanCount says which counts of faults a keeper of this type can have.)
 pub record DeskStands (CanCount : ℕ → Type 0) (desk : DeskState) (turns : List Turn) : Type 0 where
   pub stands : DeskStandsFor CanCount 1 nothing 0 (history turns) desk
   pub last : desk.cookies.last ≡ most_cookie
+
+-- the same of a desk over a keeper of the type
+abbrev pub HasTurns : {K : Type 0} → Ghosts K → DeskOf K → List Turn → Type 0
+HasTurns G desk turns = DeskStands G.can_count (state_of G desk) turns
 
 -- the turn of a page that sends this request behind other turns, and is answered so
 abbrev pub turn_at : ℕ → ℕ → Request → List Turn → Reply → ℕ → Turn
@@ -104,6 +113,23 @@ EachMayStep CanCount t old new =
     → Stays CanCount (record { turns = turns; number = number; page = page }) new
     ⊎ Steps CanCount t (record { turns = turns; number = number; page = page }) new (λ words. ⊤)
 
+-- a page of a script at a desk over a keeper of the type
+abbrev pub at_desk : {K : Type 0} → Ghosts K → ScriptPage → DeskOf K → PageAtDesk
+at_desk G page desk = record { page = page; desk = state_of G desk }
+
+-- each page of the world that the page of the script stood for, with the desk behind it, took the
+-- step, behind which both are these
+abbrev pub EachStepsAt : {K : Type 0} → Ghosts K → ℕ → ScriptPage → DeskOf K → ScriptPage → DeskOf K
+    → (List ℕ → Type 0) → Type 0
+EachStepsAt G t page desk page' desk' Prints =
+    EachSteps G.can_count t (at_desk G page desk) (at_desk G page' desk') Prints
+
+-- each of them stayed or took the step
+abbrev pub EachMayStepAt : {K : Type 0} → Ghosts K → ℕ → ScriptPage → DeskOf K → ScriptPage
+    → DeskOf K → Type 0
+EachMayStepAt G t page desk page' desk' =
+    EachMayStep G.can_count t (at_desk G page desk) (at_desk G page' desk')
+
 -- ---- the script
 
 -- the keeper of a script
@@ -114,13 +140,12 @@ keeper_of script = script.desk.keeper
 abbrev pub IsOver : {K : Type 0} → Script K → Type 0
 IsOver script = script.is_over ≡ true
 
--- The script stands for the world. (CanCount, told and count are those of the keeper's type.)
-pub record Stands {K : Type 0} (CanCount : ℕ → Type 0) (told : K → Option (List ℕ → Option Item))
-    (count : K → ℕ) (script : Script K) (world : World) : Type 0 where
+-- The script stands for the world.
+pub record Stands {K : Type 0} (G : Ghosts K) (script : Script K) (world : World) : Type 0 where
   pub limits : script.limits ≡ world.limits
   pub pages : PagesStand world.turns 0 script.pages.items world.pages
   pub numbered : AllByRecursion (λ turn. turn.page < length world.pages) world.turns
-  pub desk : DeskStands CanCount (state_of told count script.desk) world.turns
+  pub desk : HasTurns G script.desk world.turns
 
 -- The world takes the line: the script stands for the world after it, and what is printed for it
 -- meets the condition.
@@ -129,7 +154,7 @@ pub record WorldTakes {K : Type 0} (G : Ghosts K) (script' : Script K) (world : 
   pub world' : World
   pub printed : List ℕ
   pub step : WorldStep world line world' printed
-  pub stands : Stands G.can_count G.told G.count script' world'
+  pub stands : Stands G script' world'
   pub prints : Prints printed
 
 -- The text is a line, and the world takes it.
@@ -143,3 +168,7 @@ pub record WorldTakesText {K : Type 0} (G : Ghosts K) (script' : Script K) (worl
 abbrev pub IfTold : Option (List ℕ → Option Item) → Type 0 → Type 0
 IfTold None P = ⊤
 IfTold (Some items) P = P
+
+-- the same of the keeper of a script
+abbrev pub IfTells : {K : Type 0} → Ghosts K → Script K → Type 0 → Type 0
+IfTells G script P = IfTold (state_of G script.desk).told P

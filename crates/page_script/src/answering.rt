@@ -2,8 +2,7 @@
 ghost use Rattle.std.specs.Prelude.{◌≡◌, ◌≤◌, ◌^◌, ℕ, List, [], ◌∷◌, ◌++◌};
 ghost use Rattle.asp_messages.specs.Ranges.{RequestFits, ReplyFits};
 ghost use Rattle.page_script.specs.World.{Turn};
-ghost use Rattle.desk.specs.Standing.{state_of};
-ghost use Rattle.page_script.specs.Standing.{DeskStands, turn_at};
+ghost use Rattle.page_script.specs.Standing.{HasTurns, state_of, turn_at};
 
 use asp_messages::{Reply, Request};
 use desk::Desk;
@@ -15,9 +14,9 @@ pub fn answer<K: Keeper>(desk: &mut Desk<K>, request: Request, t: u64) -> Reply
     requires moment { t ≤ 2 ^ 62 }
     requires request { RequestFits request }
     ensures answers { (number : ℕ) (turns : List Turn)
-        → DeskStands K.can_count (state_of K.told K.count desk.old) turns
-        → DeskStands K.can_count (state_of K.told K.count desk.new)
-        (turns ++ turn_at number t request turns result (K.count desk.new.keeper) ∷ []) }
+        → HasTurns ⟦<K as Keeper>⟧ desk.old turns
+        → HasTurns ⟦<K as Keeper>⟧ desk.new
+        (turns ++ turn_at number t request turns result (state_of ⟦<K as Keeper>⟧ desk.new).faults ∷ []) }
     ensures fits { ReplyFits result }
     ensures floor { K.floor desk.new.keeper ≡ K.floor desk.old.keeper }
 {

@@ -75,7 +75,7 @@ impl<K: Keeper> Script<K> {
     ghost use Rattle.page_script.specs.declared.line.Line.{Line};
     ghost use Rattle.page_script.specs.Lines.{IsLine, LineFits, PageFits};
     ghost use Rattle.page_script.specs.World.{World, empty_world, history, MayStandNext, IsLawfulWorld, ForcesOldLocks};
-    ghost use Rattle.page_script.specs.Standing.{Stands, WorldTakes, WorldTakesText, IfTold, IsOver, keeper_of};
+    ghost use Rattle.page_script.specs.Standing.{Stands, WorldTakes, WorldTakesText, IfTold, IfTells, IsOver, keeper_of};
 
     /// A script with no pages over a keeper with no items, whose cookies begin at 1. It takes no
     /// memory.
@@ -83,7 +83,7 @@ impl<K: Keeper> Script<K> {
         requires no_faults { K.count keeper ≡ 0 }
         requires empty { IsEmptyTold (K.told keeper) }
         ensures keeper { keeper_of result ≡ keeper }
-        ensures stands { Stands K.can_count K.told K.count result empty_world }
+        ensures stands { Stands ⟦<K as Keeper>⟧ result empty_world }
         ensures begun { IsOver result → ⊥ }
     {
         Script {
@@ -99,16 +99,16 @@ impl<K: Keeper> Script<K> {
     fn add_page(&mut self, line: PageLine) -> LineEnd
         requires { PageFits line }
         ensures done { result ≡ LineEnd.Done → (world : World)
-            → Stands K.can_count K.told K.count self.old world
+            → Stands ⟦<K as Keeper>⟧ self.old world
             → WorldTakes ⟦<K as Keeper>⟧ self.new world (Line.Page line)
             (λ printed. printed ≡ []) }
         ensures not_a_line { result ≡ LineEnd.NotALine → (world : World)
-            → Stands K.can_count K.told K.count self.old world → MayStandNext world (Line.Page line)
+            → Stands ⟦<K as Keeper>⟧ self.old world → MayStandNext world (Line.Page line)
             → ⊥ }
         ensures unchanged { result ≡ LineEnd.NotALine → self.new ≡ self.old }
         ensures no_memory { result ≡ LineEnd.NoMemory → (world : World)
-            → Stands K.can_count K.told K.count self.old world
-            → Stands K.can_count K.told K.count self.new world }
+            → Stands ⟦<K as Keeper>⟧ self.old world
+            → Stands ⟦<K as Keeper>⟧ self.new world }
         ensures is_over { result ≡ LineEnd.NoMemory → IsOver self.new }
         ensures goes_on { result ≡ LineEnd.Done → IsOver self.new → IsOver self.old }
         ensures keeper { keeper_of self.new ≡ keeper_of self.old }
@@ -130,17 +130,17 @@ impl<K: Keeper> Script<K> {
     fn step(&mut self, t: u64, name: Name, out: &mut Vec<u8>) -> LineEnd
         requires { t ≤ 2 ^ 62 }
         ensures done { result ≡ LineEnd.Done → (world : World)
-            → Stands K.can_count K.told K.count self.old world
+            → Stands ⟦<K as Keeper>⟧ self.old world
             → WorldTakes ⟦<K as Keeper>⟧ self.new world (Line.Step t name)
             (λ printed. out.new.items ≡ out.old.items ++ printed) }
         ensures not_a_line { result ≡ LineEnd.NotALine → (world : World)
-            → Stands K.can_count K.told K.count self.old world
+            → Stands ⟦<K as Keeper>⟧ self.old world
             → MayStandNext world (Line.Step t name)
             → ⊥ }
         ensures unchanged { result ≡ LineEnd.NotALine → self.new ≡ self.old }
         ensures no_memory { result ≡ LineEnd.NoMemory → (world : World)
-            → Stands K.can_count K.told K.count self.old world
-            → Stands K.can_count K.told K.count self.new world
+            → Stands ⟦<K as Keeper>⟧ self.old world
+            → Stands ⟦<K as Keeper>⟧ self.new world
             ⊎ WorldTakes ⟦<K as Keeper>⟧ self.new world (Line.Step t name)
             (λ printed. ⊤) }
         ensures is_over { result ≡ LineEnd.NoMemory → IsOver self.new }
@@ -164,15 +164,15 @@ impl<K: Keeper> Script<K> {
     fn run(&mut self, line: Line, out: &mut Vec<u8>) -> LineEnd
         requires { LineFits line }
         ensures done { result ≡ LineEnd.Done → (world : World)
-            → Stands K.can_count K.told K.count self.old world
+            → Stands ⟦<K as Keeper>⟧ self.old world
             → WorldTakes ⟦<K as Keeper>⟧ self.new world line
             (λ printed. out.new.items ≡ out.old.items ++ printed) }
         ensures not_a_line { result ≡ LineEnd.NotALine → (world : World)
-            → Stands K.can_count K.told K.count self.old world → MayStandNext world line → ⊥ }
+            → Stands ⟦<K as Keeper>⟧ self.old world → MayStandNext world line → ⊥ }
         ensures unchanged { result ≡ LineEnd.NotALine → self.new ≡ self.old }
         ensures no_memory { result ≡ LineEnd.NoMemory → (world : World)
-            → Stands K.can_count K.told K.count self.old world
-            → Stands K.can_count K.told K.count self.new world
+            → Stands ⟦<K as Keeper>⟧ self.old world
+            → Stands ⟦<K as Keeper>⟧ self.new world
             ⊎ WorldTakes ⟦<K as Keeper>⟧ self.new world line (λ printed. ⊤) }
         ensures is_over { result ≡ LineEnd.NoMemory → IsOver self.new }
         ensures goes_on { result ≡ LineEnd.Done → IsOver self.new → IsOver self.old }
@@ -195,21 +195,21 @@ impl<K: Keeper> Script<K> {
         // Each world that the script stands for takes the line, and what is printed for it was
         // appended.
         ensures done { result ≡ LineEnd.Done → (world : World)
-            → Stands K.can_count K.told K.count self.old world
+            → Stands ⟦<K as Keeper>⟧ self.old world
             → WorldTakesText ⟦<K as Keeper>⟧ self.new world text.now
             (λ printed. out.new.items ≡ out.old.items ++ printed) }
         ensures goes_on { result ≡ LineEnd.Done → IsOver self.new → ⊥ }
 
         // In no world that the script stands for may such a line follow; nothing changed.
         ensures not_a_line { result ≡ LineEnd.NotALine → (world : World) (line : Line)
-            → Stands K.can_count K.told K.count self.old world → IsLine text.now line
+            → Stands ⟦<K as Keeper>⟧ self.old world → IsLine text.now line
             → MayStandNext world line → ⊥ }
         ensures unchanged { result ≡ LineEnd.NotALine → self.new ≡ self.old }
 
         // For want of memory each world stayed, or took the line without a print.
         ensures no_memory { result ≡ LineEnd.NoMemory → (world : World)
-            → Stands K.can_count K.told K.count self.old world
-            → Stands K.can_count K.told K.count self.new world
+            → Stands ⟦<K as Keeper>⟧ self.old world
+            → Stands ⟦<K as Keeper>⟧ self.new world
             ⊎ WorldTakesText ⟦<K as Keeper>⟧ self.new world text.now (λ printed. ⊤) }
         ensures is_over { result ≡ LineEnd.NoMemory → IsOver self.new }
         ensures stays_over { IsOver self.old → (result ≡ LineEnd.NoMemory) × (self.new ≡ self.old) }
@@ -217,10 +217,10 @@ impl<K: Keeper> Script<K> {
 
         // Each page follows the rule of its visit over its own past, and releases by force only a
         // lock that is in force and old.
-        ensures lawful { (world : World) → Stands K.can_count K.told K.count self.old world
+        ensures lawful { (world : World) → Stands ⟦<K as Keeper>⟧ self.old world
             → IsLawfulWorld world }
-        ensures forced { (world : World) → Stands K.can_count K.told K.count self.old world
-            → IfTold (K.told (keeper_of self.old)) (ForcesOldLocks world) }
+        ensures forced { (world : World) → Stands ⟦<K as Keeper>⟧ self.old world
+            → IfTells ⟦<K as Keeper>⟧ self.old (ForcesOldLocks world) }
         ensures floor { K.floor (keeper_of self.new) ≡ K.floor (keeper_of self.old) }
     {
         if self.is_over {
@@ -240,13 +240,13 @@ impl<K: Keeper> Script<K> {
     /// requests.
     pub fn into_keeper(self) -> K
         ensures keeper { result ≡ keeper_of self }
-        ensures history { (world : World) → Stands K.can_count K.told K.count self world
+        ensures history { (world : World) → Stands ⟦<K as Keeper>⟧ self world
             → StandsFor nothing 0 (history world.turns) (K.told result) (K.count result) }
-        ensures counts { (world : World) → Stands K.can_count K.told K.count self world
+        ensures counts { (world : World) → Stands ⟦<K as Keeper>⟧ self world
             → AllByRecursion (λ e. K.can_count e.faults) (history world.turns) }
-        ensures lawful { (world : World) → Stands K.can_count K.told K.count self world
+        ensures lawful { (world : World) → Stands ⟦<K as Keeper>⟧ self world
             → IsLawfulWorld world }
-        ensures forced { (world : World) → Stands K.can_count K.told K.count self world
+        ensures forced { (world : World) → Stands ⟦<K as Keeper>⟧ self world
             → IfTold (K.told result) (ForcesOldLocks world) }
     {
         self.desk.into_keeper()

@@ -33,8 +33,7 @@ impl ScriptPage {
     ghost use Rattle.visit_core.specs.Terms.{LimitsFit};
     ghost use Rattle.page_script.specs.Lines.{PageFits};
     ghost use Rattle.page_script.specs.World.{Page, Turn, new_page, turns_of, step_line, with_events};
-    ghost use Rattle.desk.specs.Standing.{state_of};
-    ghost use Rattle.page_script.specs.Standing.{PageStands, EachSteps, EachMayStep};
+    ghost use Rattle.page_script.specs.Standing.{PageStands, EachStepsAt, EachMayStepAt};
 
     /// A page whose visit has not begun.
     pub fn new(limits: Limits, line: PageLine) -> ScriptPage
@@ -63,13 +62,11 @@ impl ScriptPage {
         requires sends { Sends self.old.visit t }
         requires acts { (past : List Event) → HasPast self.old.visit past
             → act_of self.old.visit.terms past t ≡ send request }
-        ensures ok { OnOk result (EachSteps K.can_count t
-            (record { page = self.old; desk = state_of K.told K.count desk.old })
-            (record { page = self.new; desk = state_of K.told K.count desk.new })
+        ensures ok { OnOk result (EachStepsAt ⟦<K as Keeper>⟧ t self.old desk.old
+            self.new desk.new
             (λ words. out.new.items ≡ out.old.items ++ (words ++ 10 ∷ []))) }
-        ensures err { OnErr result (EachMayStep K.can_count t
-            (record { page = self.old; desk = state_of K.told K.count desk.old })
-            (record { page = self.new; desk = state_of K.told K.count desk.new })) }
+        ensures err { OnErr result (EachMayStepAt ⟦<K as Keeper>⟧ t self.old desk.old
+            self.new desk.new) }
         ensures extends { OnErr result (Extends out.old.items out.new.items) }
         ensures floor { K.floor desk.new.keeper ≡ K.floor desk.old.keeper }
     {
@@ -102,13 +99,11 @@ impl ScriptPage {
         out: &mut Vec<u8>,
     ) -> Result<(), NoMemory>
         requires { t ≤ 2 ^ 62 }
-        ensures ok { OnOk result (EachSteps K.can_count t
-            (record { page = self.old; desk = state_of K.told K.count desk.old })
-            (record { page = self.new; desk = state_of K.told K.count desk.new })
+        ensures ok { OnOk result (EachStepsAt ⟦<K as Keeper>⟧ t self.old desk.old
+            self.new desk.new
             (λ words. out.new.items ≡ out.old.items ++ step_line t self.old.name words)) }
-        ensures err { OnErr result (EachMayStep K.can_count t
-            (record { page = self.old; desk = state_of K.told K.count desk.old })
-            (record { page = self.new; desk = state_of K.told K.count desk.new })) }
+        ensures err { OnErr result (EachMayStepAt ⟦<K as Keeper>⟧ t self.old desk.old
+            self.new desk.new) }
         ensures extends { OnErr result (Extends out.old.items out.new.items) }
         ensures floor { K.floor desk.new.keeper ≡ K.floor desk.old.keeper }
     {
@@ -139,13 +134,11 @@ impl ScriptPage {
         out: &mut Vec<u8>,
     ) -> Result<(), NoMemory>
         requires { t ≤ 2 ^ 62 }
-        ensures ok { OnOk result (EachSteps K.can_count t
-            (record { page = self.old; desk = state_of K.told K.count desk.old })
-            (record { page = self.new; desk = state_of K.told K.count desk.new })
+        ensures ok { OnOk result (EachStepsAt ⟦<K as Keeper>⟧ t self.old desk.old
+            self.new desk.new
             (λ words. out.new.items ≡ out.old.items ++ step_line t self.old.name words)) }
-        ensures err { OnErr result (EachMayStep K.can_count t
-            (record { page = self.old; desk = state_of K.told K.count desk.old })
-            (record { page = self.new; desk = state_of K.told K.count desk.new })) }
+        ensures err { OnErr result (EachMayStepAt ⟦<K as Keeper>⟧ t self.old desk.old
+            self.new desk.new) }
         ensures same { OnErr result (out.new.items ≡ out.old.items) }
         ensures floor { K.floor desk.new.keeper ≡ K.floor desk.old.keeper }
     {

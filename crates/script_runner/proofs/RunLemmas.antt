@@ -26,7 +26,7 @@ use Rattle.script_runner.proofs.LineLemmas.{script_text-push, line_of, AreLines-
 
 module _ {K : Type 0} (G : keepers.Ghosts K) where
   pub HasRun-start : (held : List ℕ) (script : Script K) → held ≡ []
-      → Stands G.can_count G.told G.count script empty_world → HasRun G script [] held []
+      → Stands G script empty_world → HasRun G script [] held []
   HasRun-start held script none stands = record {
     lines = [];
     world = empty_world;
@@ -99,7 +99,7 @@ module _ {K : Type 0} (G : keepers.Ghosts K) where
 
     -- a line was run, and its print was appended to nothing
     pub line_done : (out out' : List ℕ) → out ≡ []
-        → ((world : World) → Stands G.can_count G.told G.count script world
+        → ((world : World) → Stands G script world
         → WorldTakesText G script' world text (λ printed.
         out' ≡ out ++ printed))
         → HasRunLast G script' bytes held' due (out' ++ [])
@@ -111,7 +111,7 @@ module _ {K : Type 0} (G : keepers.Ghosts K) where
 
     -- it is none that may follow
     pub line_wrong : script' ≡ script
-        → ((world : World) (line : Line) → Stands G.can_count G.told G.count script world
+        → ((world : World) (line : Line) → Stands G script world
         → IsLine text line → MayStandNext world line → ⊥)
         → (ran : HasRun G script' bytes held due) × BeginsWrong ran.world held
     line_wrong same none =
@@ -127,15 +127,15 @@ module _ {K : Type 0} (G : keepers.Ghosts K) where
         )
 
     -- memory was wanting
-    pub line_lacks : ((world : World) → Stands G.can_count G.told G.count script world
-        → Stands G.can_count G.told G.count script' world
+    pub line_lacks : ((world : World) → Stands G script world
+        → Stands G script' world
         ⊎ WorldTakesText G script' world text (λ printed. ⊤))
         → (rest : List ℕ)
         × (HasRun G script' bytes rest due
         ⊎ ((printed : List ℕ) × HasRunLast G script' bytes rest due printed))
     line_lacks either = of (either run.world run.stands)
       where
-        of : Stands G.can_count G.told G.count script' run.world
+        of : Stands G script' run.world
             ⊎ WorldTakesText G script' run.world text (λ printed. ⊤)
             → (rest : List ℕ)
             × (HasRun G script' bytes rest due
@@ -209,11 +209,11 @@ module _ {K : Type 0} (G : keepers.Ghosts K) where
     floor_of ends.Long run = run.ends.1.1
 
     module _ (keeper : K)
-        (history_stands : (world : World) → Stands G.can_count G.told G.count now.script world
+        (history_stands : (world : World) → Stands G now.script world
         → StandsFor nothing 0 (history world.turns) (G.told keeper) (G.count keeper))
-        (lawful : (world : World) → Stands G.can_count G.told G.count now.script world
+        (lawful : (world : World) → Stands G now.script world
         → IsLawfulWorld world)
-        (forced : (world : World) → Stands G.can_count G.told G.count now.script world
+        (forced : (world : World) → Stands G now.script world
         → IfTold (G.told keeper) (ForcesOldLocks world))
       where
         -- where a run stood that ended here

@@ -25,7 +25,7 @@ module _ {K : Type 0} (G : Ghosts K) where
     pub spelled : bytes ≡ script_text lines ++ rest
     pub are_lines : AreLines lines
     pub run : IsWorldRun lines world output
-    pub stands : Stands G.can_count G.told G.count script world
+    pub stands : Stands G script world
 
   -- The same, and the last of the lines prints what is behind that.
   pub record HasRunLast (script : Script K) (bytes rest output printed : List ℕ) : Type 0 where
@@ -37,7 +37,7 @@ module _ {K : Type 0} (G : Ghosts K) where
     pub are_lines : AreLines (earlier ++ last ∷ [])
     pub run : IsWorldRun earlier middle output
     pub step : WorldStep middle last world printed
-    pub stands : Stands G.can_count G.told G.count script world
+    pub stands : Stands G script world
 
   -- no cookie may be drawn below the same number
   abbrev pub KeepsFloor : Driver K → Driver K → Type 0

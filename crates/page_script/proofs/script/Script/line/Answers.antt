@@ -13,32 +13,32 @@ returns-in-Ok-Some-clause-not_a_line g c end world line stands is_line follows =
 
 pub returns-then-self-clause-lawful : goal.returns-then-self-clause-lawful
 returns-then-self-clause-lawful g c world stands =
-    lawful g.K.Keeper.can_count g.K.Keeper.told g.K.Keeper.count c.args.self.now world stands
+    lawful g.K.Keeper c.args.self.now world stands
 
 pub returns-then-self-clause-forced : goal.returns-then-self-clause-forced
 returns-then-self-clause-forced g c world stands =
-    forced g.K.Keeper.can_count g.K.Keeper.told g.K.Keeper.count c.args.self.now world stands
+    forced g.K.Keeper c.args.self.now world stands
 
 pub returns-in-Ok-Some-clause-lawful : goal.returns-in-Ok-Some-clause-lawful
 returns-in-Ok-Some-clause-lawful g c world stands =
-    lawful g.K.Keeper.can_count g.K.Keeper.told g.K.Keeper.count c.args.self.now world stands
+    lawful g.K.Keeper c.args.self.now world stands
 
 pub returns-in-Ok-Some-clause-forced : goal.returns-in-Ok-Some-clause-forced
 returns-in-Ok-Some-clause-forced g c world stands =
-    forced g.K.Keeper.can_count g.K.Keeper.told g.K.Keeper.count c.args.self.now world stands
+    forced g.K.Keeper c.args.self.now world stands
 
 pub returns-in-Ok-None-clause-lawful : goal.returns-in-Ok-None-clause-lawful
 returns-in-Ok-None-clause-lawful g c world stands =
-    lawful g.K.Keeper.can_count g.K.Keeper.told g.K.Keeper.count c.args.self.now world stands
+    lawful g.K.Keeper c.args.self.now world stands
 
 pub returns-in-Ok-None-clause-forced : goal.returns-in-Ok-None-clause-forced
 returns-in-Ok-None-clause-forced g c world stands =
-    forced g.K.Keeper.can_count g.K.Keeper.told g.K.Keeper.count c.args.self.now world stands
+    forced g.K.Keeper c.args.self.now world stands
 
 pub returns-in-Err-clause-lawful : goal.returns-in-Err-clause-lawful
 returns-in-Err-clause-lawful g c world stands =
-    lawful g.K.Keeper.can_count g.K.Keeper.told g.K.Keeper.count c.args.self.now world stands
+    lawful g.K.Keeper c.args.self.now world stands
 
 pub returns-in-Err-clause-forced : goal.returns-in-Err-clause-forced
 returns-in-Err-clause-forced g c world stands =
-    forced g.K.Keeper.can_count g.K.Keeper.told g.K.Keeper.count c.args.self.now world stands
+    forced g.K.Keeper c.args.self.now world stands
