@@ -14,8 +14,6 @@ mod reader;
 mod replies;
 mod reply_words;
 mod standing;
-#[cfg(test)]
-mod tests;
 mod text_laws;
 mod verdict;
 mod writer;

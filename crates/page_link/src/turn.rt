@@ -44,7 +44,8 @@ pub fn take_turn<R: HostTime, L: Link, C: Clock>(
         }) ending.new client.new.reader.bytes.held) }
 
     // A turn that leaves the visit underway has read the clock once.
-    ensures read { IfNone result ((now : ℕ) × GivesMoment (C.told clock.old) (C.told clock.new) now) }
+    ensures read { IfNone result ((now : ℕ)
+        × GivesMoment (C.told clock.old) (C.told clock.new) now) }
     ensures whole { IfNone result (client.new.reader.bytes.is_broken ≡ false) }
     ensures end { IfSome result (λ end. (page : Ending) (before : Scene)
         → IsUnderway page before (record {

@@ -19,8 +19,8 @@ use Rattle.page_script.specs.World.{Page, Turn, World, history, event_of, drawn_
 
 -- ---- the desk
 
--- what contracts see of a desk, over a keeper of the type: what the keeper tells, how many faults it
--- has counted, and the cookies that are left
+-- what contracts see of a desk, over a keeper of the type: what the keeper tells, how many faults
+-- it has counted, and the cookies that are left
 abbrev pub state_of : {K : Type 0} → Ghosts K → DeskOf K → DeskState
 state_of G desk = desk_state G.told G.count desk
 

@@ -16,7 +16,8 @@ pub fn answer<K: Keeper>(desk: &mut Desk<K>, request: Request, t: u64) -> Reply
     ensures answers { (number : ℕ) (turns : List Turn)
         → HasTurns ⟦<K as Keeper>⟧ desk.old turns
         → HasTurns ⟦<K as Keeper>⟧ desk.new
-        (turns ++ turn_at number t request turns result (state_of ⟦<K as Keeper>⟧ desk.new).faults ∷ []) }
+        (turns ++ turn_at number t request turns result
+        (state_of ⟦<K as Keeper>⟧ desk.new).faults ∷ []) }
     ensures fits { ReplyFits result }
     ensures floor { K.floor desk.new.keeper ≡ K.floor desk.old.keeper }
 {

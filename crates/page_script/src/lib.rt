@@ -11,8 +11,6 @@ mod parts;
 mod reading;
 mod script;
 mod script_page;
-#[cfg(test)]
-mod tests;
 mod text;
 
 pub use laws::{one_line, pages_keep_their_rule, runs_go_on};

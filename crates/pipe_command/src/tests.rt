@@ -51,8 +51,8 @@ fn sink(alloc: Global, fails: &[u64]) -> Result<MemorySink, Fail> {
     }
 }
 
-/// The status of a run over the text in pieces, and the bytes that it wrote, which are the same over
-/// both keepers in memory.
+/// The status of a run over the text in pieces, and the bytes that it wrote, which are the same
+/// over both keepers in memory.
 fn run_text(alloc: Global, pipe: Pipe, text: &[u8], piece: u64) -> Result<(u8, MemorySink), Fail>
     requires { PipeFits pipe }
 {

@@ -1,8 +1,8 @@
-//! Whole texts, read in pieces.
+//! Whole texts of journals, read in pieces.
 ghost use Rattle.std.specs.Prelude.{◌+◌, ◌≤◌, length, IfOk, IsTrue};
 
-use crate::{JournalNext, JournalReader, MOST_PIECE, write_entry, write_head};
 use asp_base::NoMemory;
+use journal_text::{JournalNext, JournalReader, MOST_PIECE, write_entry, write_head};
 use std::alloc::Global;
 
 /// What was read of a text.

@@ -1,5 +1,5 @@
 use Rattle.std.proofs.Common.{◌≤◌, ◌+◌, ◌^◌, length, IsTrue}
-use Rattle.journal_text.proofs.tests.reading.read_again.Given as goal
+use Rattle.line_tests.proofs.reading.read_again.Given as goal
 
 abbrev pub invariant-loop-piece : goal.invariant-loop-piece
 invariant-loop-piece l = record {

@@ -1,5 +1,5 @@
 use Rattle.std.proofs.Common.{◌+◌, ◌≤◌, length}
-use Rattle.journal_text.proofs.tests.reading.tell.Given as goal
+use Rattle.line_tests.proofs.reading.tell.Given as goal
 
 abbrev pub invariant-lines : goal.invariant-lines
 invariant-lines l = l.reader.offset + length l.reader.held ≤ l.fn.reader.offset

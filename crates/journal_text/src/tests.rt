@@ -1,4 +1,0 @@
-//! Tests of what no clause says.
-mod checking;
-mod reading;
-mod texts;

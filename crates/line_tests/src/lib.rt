@@ -1,0 +1,13 @@
+//! Journals and page scripts, which are read line by line. The crate has tests alone.
+#![tactic(auto)]
+
+#[cfg(test)]
+mod journals;
+#[cfg(test)]
+mod lines;
+#[cfg(test)]
+mod reading;
+#[cfg(test)]
+mod scripts;
+#[cfg(test)]
+mod verdicts;
