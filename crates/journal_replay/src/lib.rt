@@ -3,8 +3,6 @@
 
 mod replay;
 mod replayer;
-#[cfg(test)]
-mod tests;
 mod verdict;
 
 pub use replay::run_replay;

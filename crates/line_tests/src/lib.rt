@@ -8,6 +8,14 @@ mod lines;
 #[cfg(test)]
 mod reading;
 #[cfg(test)]
+mod replay_changes;
+#[cfg(test)]
+mod replay_endings;
+#[cfg(test)]
+mod replay_verdicts;
+#[cfg(test)]
+mod replays;
+#[cfg(test)]
 mod scripts;
 #[cfg(test)]
 mod verdicts;

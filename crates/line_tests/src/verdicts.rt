@@ -1,6 +1,6 @@
 //! Journals judged, and the lines that tell it.
+use crate::replays::replay_status;
 use asp_base::{Bytes, MemorySink, MemorySource};
-use journal_replay::run_replay;
 use journal_text::{illegal_stays, legal_is_judged_legal, one_judgement};
 use std::alloc::Global;
 
@@ -13,7 +13,7 @@ fn is_told(alloc: Global, journal: &str, line: &str) -> bool {
     let Ok(mut output) = MemorySink::new(alloc, 256, 256, Vec::new(alloc)) else {
         return false;
     };
-    let _status = run_replay(alloc, 1 << 40, &mut input, &mut output);
+    let _status = replay_status(alloc, 1 << 40, &mut input, &mut output);
     output.taken() == line.as_bytes()
 }
 
