@@ -2,6 +2,12 @@
 #![tactic(auto)]
 
 #[cfg(test)]
+mod drive_endings;
+#[cfg(test)]
+mod drive_scripts;
+#[cfg(test)]
+mod drives;
+#[cfg(test)]
 mod journals;
 #[cfg(test)]
 mod lines;

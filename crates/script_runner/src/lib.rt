@@ -3,8 +3,6 @@
 
 mod drive;
 mod driver;
-#[cfg(test)]
-mod tests;
 mod verdict;
 
 pub use drive::run_drive;
