@@ -25,3 +25,5 @@ mod replays;
 mod scripts;
 #[cfg(test)]
 mod verdicts;
+#[cfg(test)]
+mod words;

@@ -7,8 +7,6 @@ mod flag;
 mod laws;
 mod number;
 mod split;
-#[cfg(test)]
-mod tests;
 
 pub use byte_string::read_byte_string;
 pub use flag::read_flag;

@@ -1,5 +1,6 @@
-use crate::{read_byte_string, read_flag, read_plain_number, split_at_byte, split_word};
+//! The words of the plain spelling: numbers, byte strings, flags, and texts cut at a byte.
 use asp_base::Bytes;
+use plain_words::{read_byte_string, read_flag, read_plain_number, split_at_byte, split_word};
 use std::test::Fail;
 
 #[test]
