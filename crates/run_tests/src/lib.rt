@@ -13,10 +13,16 @@ mod heads;
 #[cfg(test)]
 mod journals;
 #[cfg(test)]
+mod keeper_failures;
+#[cfg(test)]
 mod load_counts;
 #[cfg(test)]
 mod loads;
 #[cfg(test)]
+mod pieces;
+#[cfg(test)]
 mod running;
 #[cfg(test)]
 mod scripts;
+#[cfg(test)]
+mod stream_failures;

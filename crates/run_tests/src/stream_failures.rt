@@ -1,7 +1,7 @@
 //! Each read and each write of a run fails once.
-use crate::streams::{DONE, FOUND, WRITE_AND_READ, joined, pipe, sink, source};
+use crate::pieces::{DONE, FOUND, joined, sink};
+use crate::running::{PIPE, WRITE_AND_READ, pipe_status, source};
 use keeper::MapKeeper;
-use pipe_command::run_pipe;
 use std::test::Fail;
 
 #[test]
@@ -17,14 +17,8 @@ fn a_read_that_fails_ends_the_run_with_what_was_answered(rt: HostRuntime) -> Res
         };
         let mut input = source(alloc, WRITE_AND_READ, 1, &[call])?;
         let mut output = sink(alloc, 16_384, &[])?;
-        let ran = run_pipe(
-            alloc,
-            pipe(),
-            &mut input,
-            &mut output,
-            MapKeeper::new(alloc),
-        );
-        assert_eq!(rt; ran.status, 4, "read {call}");
+        let status = pipe_status(alloc, PIPE, &mut input, &mut output, MapKeeper::new(alloc));
+        assert_eq!(rt; status, 4, "read {call}");
         assert!(rt; Some(output.taken()) == whole.get(..wanted), "read {call}");
     }
     Ok(())
@@ -37,15 +31,9 @@ fn a_write_that_fails_ends_the_run_with_what_was_taken(rt: HostRuntime) -> Resul
     for call in 0..=90 {
         let mut input = source(alloc, WRITE_AND_READ, 16_384, &[])?;
         let mut output = sink(alloc, 1, &[call])?;
-        let ran = run_pipe(
-            alloc,
-            pipe(),
-            &mut input,
-            &mut output,
-            MapKeeper::new(alloc),
-        );
+        let status = pipe_status(alloc, PIPE, &mut input, &mut output, MapKeeper::new(alloc));
         let wanted = if call < 90 { 5 } else { 0 };
-        assert_eq!(rt; ran.status, wanted, "write {call}");
+        assert_eq!(rt; status, wanted, "write {call}");
         assert!(rt;
             Some(output.taken()) == whole.get(..call as usize),
             "write {call}"

@@ -2,11 +2,11 @@
 ghost use Rattle.std.specs.Prelude.{IfOk};
 ghost use Rattle.asp_messages.specs.Ranges.{RequestFits};
 
-use crate::streams::{DONE, joined, pipe, sink, source};
+use crate::pieces::{DONE, joined, sink};
+use crate::running::{PIPE, pipe_status, source};
 use asp_base::{Bytes, NoMemory};
 use asp_messages::{Ask, Reply, Request};
 use keeper::{FaultyKeeper, ListKeeper, MapKeeper};
-use pipe_command::run_pipe;
 use shard_core::{Shard, Swept};
 use std::alloc::Global;
 use std::test::Fail;
@@ -58,8 +58,8 @@ fn a_keeper_that_fails_is_answered_and_changes_nothing(rt: HostRuntime) -> Resul
         let mut input = source(alloc, REQUESTS, 16_384, &[])?;
         let mut output = sink(alloc, 16_384, &[])?;
         let keeper = FaultyKeeper::new(MapKeeper::new(alloc), Vec::from_slice(alloc, &[call])?);
-        let ran = run_pipe(alloc, pipe(), &mut input, &mut output, keeper);
-        assert_eq!(rt; ran.status, 0, "call {call}");
+        let status = pipe_status(alloc, PIPE, &mut input, &mut output, keeper);
+        assert_eq!(rt; status, 0, "call {call}");
         assert!(rt; output.taken() == wanted.as_slice(), "call {call}");
     }
     Ok(())
