@@ -6,7 +6,5 @@ mod counts;
 mod generator;
 mod load;
 mod sweep;
-#[cfg(test)]
-mod tests;
 
 pub use load::{Load, run_load};

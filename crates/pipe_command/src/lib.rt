@@ -15,6 +15,3 @@ pub use path::path_of;
 pub use pipe::{End, Pipe, Verdict};
 pub use pipe_run::run_pipe;
 pub use words::{Command, command_of};
-
-#[cfg(test)]
-mod tests;

@@ -1,7 +1,6 @@
 //! A page script by the command line.
-use super::edges::words_of;
-use super::{sink, source};
-use crate::commands::command;
+use crate::edges::words_of;
+use crate::running::{command_status, sink, source};
 use keeper::ListKeeper;
 use std::test::Fail;
 
@@ -18,14 +17,14 @@ fn the_steps_of_two_pages_are_printed(rt: HostRuntime) -> Result<(), Fail> {
     let given = words_of(alloc, &["drive"])?;
     let mut input = source(alloc, SCRIPT, 16_384, &[])?;
     let mut output = sink(alloc, &[])?;
-    let ran = command(
+    let status = command_status(
         alloc,
         &given,
         &mut input,
         &mut output,
         ListKeeper::new(alloc),
     );
-    assert_eq!(rt; ran.status, 0);
+    assert_eq!(rt; status, 0);
     assert_eq!(rt; output.taken(), PRINTED);
     Ok(())
 }

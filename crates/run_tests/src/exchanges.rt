@@ -1,6 +1,6 @@
 //! Exchanges over one connection: what is asked, and what is answered.
-use super::{PIPE, run_text, spelled};
-use crate::pipe::Pipe;
+use crate::running::{PIPE, run_text, spelled};
+use pipe_command::Pipe;
 use std::test::Fail;
 
 /// Requests that make the item which the next request finds.

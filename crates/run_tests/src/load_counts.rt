@@ -1,7 +1,7 @@
 //! Loads over a keeper in memory.
-use crate::{Load, run_load};
 use asp_base::MemorySink;
 use keeper::{Keeper, ListKeeper};
+use load_generator::{Load, run_load};
 use std::alloc::Global;
 use std::test::Fail;
 

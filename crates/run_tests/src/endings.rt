@@ -1,8 +1,9 @@
 //! How a run ends, and what it has written by then.
-use super::{BAD, DONE, FOUND, PIPE, WRITE_AND_READ, joined, run_text, sink, source};
-use crate::pipe::Pipe;
-use crate::pipe_run::run_pipe;
+use crate::running::{
+    BAD, DONE, FOUND, PIPE, WRITE_AND_READ, joined, pipe_status, run_text, sink, source,
+};
 use keeper::{FaultyKeeper, ListKeeper};
+use pipe_command::Pipe;
 use std::test::Fail;
 
 #[test]
@@ -30,8 +31,8 @@ fn a_source_that_fails_ends_the_run_with_what_was_answered(rt: HostRuntime) -> R
     let alloc = rt.alloc();
     let mut input = source(alloc, WRITE_AND_READ, 16_384, &[1])?;
     let mut output = sink(alloc, &[])?;
-    let ran = run_pipe(alloc, PIPE, &mut input, &mut output, ListKeeper::new(alloc));
-    assert_eq!(rt; ran.status, 4);
+    let status = pipe_status(alloc, PIPE, &mut input, &mut output, ListKeeper::new(alloc));
+    assert_eq!(rt; status, 4);
     assert_eq!(rt; output.taken(), joined(alloc, DONE, FOUND)?.as_slice());
     Ok(())
 }
@@ -41,8 +42,8 @@ fn a_sink_that_fails_ends_the_run_with_what_it_took(rt: HostRuntime) -> Result<(
     let alloc = rt.alloc();
     let mut input = source(alloc, WRITE_AND_READ, 16_384, &[])?;
     let mut output = sink(alloc, &[1])?;
-    let ran = run_pipe(alloc, PIPE, &mut input, &mut output, ListKeeper::new(alloc));
-    assert_eq!(rt; ran.status, 5);
+    let status = pipe_status(alloc, PIPE, &mut input, &mut output, ListKeeper::new(alloc));
+    assert_eq!(rt; status, 5);
     assert_eq!(rt; output.taken(), DONE);
     Ok(())
 }
@@ -63,8 +64,8 @@ fn a_fault_of_the_keeper_is_answered_and_changes_nothing(rt: HostRuntime) -> Res
     let mut input = source(alloc, WRITE_AND_READ, 16_384, &[])?;
     let mut output = sink(alloc, &[])?;
     let keeper = FaultyKeeper::new(ListKeeper::new(alloc), Vec::from_slice(alloc, &[1])?);
-    let ran = run_pipe(alloc, PIPE, &mut input, &mut output, keeper);
-    assert_eq!(rt; ran.status, 0);
+    let status = pipe_status(alloc, PIPE, &mut input, &mut output, keeper);
+    assert_eq!(rt; status, 0);
     assert_eq!(rt;
         output.taken(),
         b"HTTP/1.1 500 Keeper Fault\r\nContent-Length: 0\r\n\r\nHTTP/1.1 404 Not Found\r\n\

@@ -1,12 +1,12 @@
 //! Journals of whole runs.
-use super::edges::words_of;
-use super::loads::TEN;
-use super::{PIPE, WRITE_AND_READ, joined, run_text, sink, source};
-use crate::commands::command;
-use crate::pipe::Pipe;
-use crate::pipe_run::run_pipe;
+use crate::edges::words_of;
+use crate::loads::TEN;
+use crate::running::{
+    PIPE, WRITE_AND_READ, command_status, joined, pipe_status, run_text, sink, source,
+};
 use asp_base::MemorySink;
 use keeper::{FaultyKeeper, ListKeeper};
+use pipe_command::Pipe;
 use std::alloc::Global;
 use std::test::Fail;
 
@@ -55,9 +55,9 @@ fn a_fault_of_the_keeper_is_counted_in_each_line(rt: HostRuntime) -> Result<(), 
     let keeper = FaultyKeeper::new(ListKeeper::new(alloc), fails);
     let mut input = source(alloc, WRITE_AND_READ, 16_384, &[])?;
     let mut output = sink(alloc, &[])?;
-    let ran = run_pipe(alloc, TRACE, &mut input, &mut output, keeper);
+    let status = pipe_status(alloc, TRACE, &mut input, &mut output, keeper);
     let lines = b"0 0 1 0 x2f61 write 0 20 0 x78 : keeper-fault\n0 1000 1 0 x2f61 read : missing\n";
-    assert_eq!(rt; ran.status, 0);
+    assert_eq!(rt; status, 0);
     assert_eq!(rt; output.taken(), joined(alloc, HEAD, lines)?.as_slice());
     Ok(())
 }
@@ -68,14 +68,14 @@ fn a_sink_that_fails_ends_a_journal(rt: HostRuntime) -> Result<(), Fail> {
     for (call, text) in [(0, b"".as_slice()), (1, HEAD)] {
         let mut input = source(alloc, WRITE_AND_READ, 16_384, &[])?;
         let mut output = sink(alloc, &[call])?;
-        let ran = run_pipe(
+        let status = pipe_status(
             alloc,
             TRACE,
             &mut input,
             &mut output,
             ListKeeper::new(alloc),
         );
-        assert_eq!(rt; ran.status, 5);
+        assert_eq!(rt; status, 5);
         assert_eq!(rt; output.taken(), text);
     }
     Ok(())
@@ -86,14 +86,14 @@ fn replay(alloc: Global, journal: &[u8]) -> Result<(u8, MemorySink), Fail> {
     let given = words_of(alloc, &["replay"])?;
     let mut input = source(alloc, journal, 16_384, &[])?;
     let mut output = sink(alloc, &[])?;
-    let ran = command(
+    let status = command_status(
         alloc,
         &given,
         &mut input,
         &mut output,
         ListKeeper::new(alloc),
     );
-    Ok((ran.status, output))
+    Ok((status, output))
 }
 
 #[test]

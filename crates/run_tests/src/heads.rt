@@ -1,5 +1,5 @@
 //! Heads at their limits, each in pieces of four sizes.
-use super::{PIPE, run_text, spelled};
+use crate::running::{PIPE, run_text, spelled};
 use std::alloc::Global;
 use std::test::Fail;
 

@@ -1,9 +1,8 @@
 //! The words of the command line, and the host's source and sink.
-use super::{DONE, FOUND, WRITE_AND_READ, joined, sink, source};
-use crate::commands::command;
-use crate::path::path_of;
+use crate::running::{DONE, FOUND, WRITE_AND_READ, command_status, joined, sink, source};
 use asp_base::{Failed, HostSink, HostSource, Sink, Source};
 use keeper::ListKeeper;
+use pipe_command::path_of;
 use std::alloc::Global;
 use std::io::{self, Cursor, Read, Write};
 use std::test::Fail;
@@ -22,7 +21,7 @@ fn are_no_command(alloc: Global, words: &[&str]) -> Result<bool, Fail> {
     let given = words_of(alloc, words)?;
     let mut input = source(alloc, WRITE_AND_READ, 16_384, &[])?;
     let mut output = sink(alloc, &[])?;
-    let ran = command(
+    let status = command_status(
         alloc,
         &given,
         &mut input,
@@ -32,7 +31,7 @@ fn are_no_command(alloc: Global, words: &[&str]) -> Result<bool, Fail> {
     let mut unread = [0; 4];
     let len = input.read(&mut unread);
     Ok(
-        ran.status == 2
+        status == 2
             && output.taken().is_empty()
             && len == Ok(4)
             && unread.as_slice() == b"PUT ".as_slice(),
@@ -66,14 +65,14 @@ fn pipe_and_id_write_what_they_say(rt: HostRuntime) -> Result<(), Fail> {
     let given = words_of(alloc, &["pipe", "0", "001000", "1"])?;
     let mut input = source(alloc, WRITE_AND_READ, 16_384, &[])?;
     let mut output = sink(alloc, &[])?;
-    let ran = command(
+    let status = command_status(
         alloc,
         &given,
         &mut input,
         &mut output,
         ListKeeper::new(alloc),
     );
-    assert_eq!(rt; ran.status, 0);
+    assert_eq!(rt; status, 0);
     assert_eq!(rt; output.taken(), joined(alloc, DONE, FOUND)?.as_slice());
     for (digits, text) in [
         (
@@ -92,14 +91,14 @@ fn pipe_and_id_write_what_they_say(rt: HostRuntime) -> Result<(), Fail> {
         let given = words_of(alloc, &["id", digits])?;
         let mut input = source(alloc, WRITE_AND_READ, 16_384, &[])?;
         let mut output = sink(alloc, &[])?;
-        let ran = command(
+        let status = command_status(
             alloc,
             &given,
             &mut input,
             &mut output,
             ListKeeper::new(alloc),
         );
-        assert_eq!(rt; ran.status, 0);
+        assert_eq!(rt; status, 0);
         assert_eq!(rt; output.taken(), text.as_bytes());
     }
     Ok(())

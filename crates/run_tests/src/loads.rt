@@ -2,12 +2,11 @@
 ghost use Rattle.std.specs.Prelude.{◌≡◌};
 ghost use Rattle.keeper.specs.Items.{IsEmptyTold};
 
-use super::edges::words_of;
-use super::{PIPE, run_text, sink, source, spelled};
-use crate::commands::command;
-use crate::pipe::Pipe;
+use crate::edges::words_of;
+use crate::running::{PIPE, command_status, run_text, sink, source, spelled};
 use asp_base::{MemorySink, read_number};
 use keeper::{Keeper, ListKeeper, MapKeeper};
+use pipe_command::Pipe;
 use std::alloc::Global;
 use std::test::Fail;
 
@@ -39,8 +38,8 @@ fn load<K: Keeper + Drop>(
     let given = words_of(alloc, &["load", requests, seed])?;
     let mut input = source(alloc, b"", 16_384, &[])?;
     let mut output = sink(alloc, &[])?;
-    let ran = command(alloc, &given, &mut input, &mut output, keeper);
-    Ok((ran.status, output))
+    let status = command_status(alloc, &given, &mut input, &mut output, keeper);
+    Ok((status, output))
 }
 
 /// How many replies the lines from `200` to `507` count.
