@@ -3,15 +3,36 @@ ghost use Rattle.std.specs.Prelude.{◌≡◌, ◌≤◌, ℕ, [], Some, length,
 ghost use Rattle.asp_messages.specs.Ranges.{RequestFits};
 ghost use Rattle.state_store.specs.Passes.{IsPassOf, first_place, view_for, view_in};
 
-use super::{LAST_COOKIE, done, found, keepers, on_key, write};
-use crate::{Answer, FreshStore, Pass, Store, SweepCount, SweepEnd};
+use crate::given::{answer, first_pass, keepers, on_key, open, sweep, write};
 use asp_base::{Bytes, NoMemory, OpenGate};
 use asp_messages::{Ask, Reply, Request};
 use keeper::ListKeeper;
+use state_store::{Answer, FreshStore, Pass, Store, SweepCount, SweepEnd};
 use std::alloc::Global;
 use std::process::Abort;
 use std::sync::Wait;
 use std::test::Fail;
+
+fn done(place: u64) -> Answer {
+    Answer {
+        reply: Reply::Done,
+        place: Some(place),
+    }
+}
+
+/// What finds the item of `write` that lives for 20 minutes, at this place.
+fn found(alloc: Global, cookie: Option<u64>, place: u64) -> Result<Answer, NoMemory> {
+    let reply = Reply::Found {
+        body: Bytes::copy(alloc, b"x")?,
+        minutes: 20,
+        cookie,
+        first: false,
+    };
+    Ok(Answer {
+        reply,
+        place: Some(place),
+    })
+}
 
 /// Each of two new passes asks once on one key, and they meet. Where the places are 0 and 1, both
 /// know of both entries, and each of its own call.
@@ -58,7 +79,7 @@ fn read_of(alloc: Global, request: &Request) -> Result<Request, NoMemory>
 fn two_share<R: Abort + Wait>(rt: &R, alloc: Global, shards: u64) -> Result<(), Fail>
     requires { (1 ≤ shards) × (shards ≤ 64) }
 {
-    let fresh = Store::new(rt, alloc, keepers(alloc, shards)?, 1, LAST_COOKIE, 0)?;
+    let fresh = open(rt, alloc, keepers(alloc, shards)?, 0)?;
     let FreshStore { store, mut roll } = fresh;
     let mut a = store.pass(rt, alloc, &mut roll)?;
     let mut b = store.pass(rt, alloc, &mut roll)?;
@@ -82,45 +103,42 @@ fn two_passes_share_a_history(rt: HostRuntime) -> Result<(), Fail> {
 fn the_last_place_is_given_once(rt: HostRuntime) -> Result<(), Fail> {
     let alloc = rt.alloc();
     let last_place = 9_223_372_036_854_775_806;
-    let fresh = Store::new(&rt, alloc, keepers(alloc, 1)?, 1, LAST_COOKIE, last_place)?;
+    let fresh = open(&rt, alloc, keepers(alloc, 1)?, last_place)?;
     let FreshStore { store, mut roll } = fresh;
     let store = &store;
-    let mut pass = store.pass(&rt, alloc, &mut roll)?;
+    let mut pass = first_pass(&rt, alloc, store, &mut roll)?;
     let out = Answer {
         reply: Reply::PlacesOut,
         place: None,
     };
     let first = write(alloc, b'a', 20)?;
-    assert_eq!(rt;
-        store.ask(&rt, &mut pass, first, 0, &OpenGate),
-        done(last_place)
-    );
+    assert_eq!(rt; answer(&rt, store, &mut pass, first), done(last_place));
     let second = write(alloc, b'a', 20)?;
-    assert_eq!(rt; store.ask(&rt, &mut pass, second, 0, &OpenGate), out);
+    assert_eq!(rt; answer(&rt, store, &mut pass, second), out);
     let swept = SweepCount {
         removed: 0,
         end: SweepEnd::PlacesOut,
     };
-    assert_eq!(rt; store.sweep(&rt, &mut pass, 1_200_000, &OpenGate), swept);
+    assert_eq!(rt; sweep(&rt, store, &mut pass, 1_200_000), swept);
     Ok(())
 }
 
 #[test]
 fn shards_draw_from_one_source(rt: HostRuntime) -> Result<(), Fail> {
     let alloc = rt.alloc();
-    let fresh = Store::new(&rt, alloc, keepers(alloc, 8)?, 1, LAST_COOKIE, 0)?;
+    let fresh = open(&rt, alloc, keepers(alloc, 8)?, 0)?;
     let FreshStore { store, mut roll } = fresh;
     let store = &store;
-    let mut pass = store.pass(&rt, alloc, &mut roll)?;
+    let mut pass = first_pass(&rt, alloc, store, &mut roll)?;
     let first = write(alloc, b'b', 20)?;
-    assert_eq!(rt; store.ask(&rt, &mut pass, first, 0, &OpenGate), done(0));
+    assert_eq!(rt; answer(&rt, store, &mut pass, first), done(0));
     let second = write(alloc, b'd', 20)?;
-    assert_eq!(rt; store.ask(&rt, &mut pass, second, 0, &OpenGate), done(0));
+    assert_eq!(rt; answer(&rt, store, &mut pass, second), done(0));
     let third = on_key(alloc, b'b', Ask::Acquire)?;
     let one = found(alloc, Some(1), 1)?;
-    assert_eq!(rt; store.ask(&rt, &mut pass, third, 0, &OpenGate), one);
+    assert_eq!(rt; answer(&rt, store, &mut pass, third), one);
     let fourth = on_key(alloc, b'd', Ask::Acquire)?;
     let two = found(alloc, Some(2), 1)?;
-    assert_eq!(rt; store.ask(&rt, &mut pass, fourth, 0, &OpenGate), two);
+    assert_eq!(rt; answer(&rt, store, &mut pass, fourth), two);
     Ok(())
 }

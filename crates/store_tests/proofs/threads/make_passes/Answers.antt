@@ -1,7 +1,7 @@
 use Rattle.std.proofs.Common.{All, arith, subst, sym}
 use Rattle.std.proofs.lemmas.List.Elements.{All-push}
 use Rattle.state_store.specs.Passes.{IsPassOf}
-use Rattle.state_store.proofs.tests.threads.make_passes.Goals as goal
+use Rattle.store_tests.proofs.threads.make_passes.Goals as goal
 
 pub loop-preserved : goal.loop-preserved
 loop-preserved g c = record {

@@ -3,11 +3,11 @@ ghost use Rattle.std.specs.Prelude.{◌≡◌, ◌≤◌, ◌<◌, ◌^◌, IfOk
 ghost use Rattle.asp_messages.specs.Ranges.{RequestFits};
 ghost use Rattle.state_store.specs.Passes.{IsPassOf};
 
-use super::{LAST_COOKIE, keepers, write};
-use crate::{FreshStore, Pass, Store, SweepCount, SweepEnd};
-use asp_base::{Bytes, NoMemory, OpenGate};
+use crate::given::{answer, first_pass, keepers, open, sweep, write};
+use asp_base::{Bytes, NoMemory};
 use asp_messages::{Ask, Reply, Request};
 use keeper::{FaultyKeeper, ListKeeper};
+use state_store::{FreshStore, Pass, Store, SweepCount, SweepEnd};
 use std::alloc::Global;
 use std::process::Abort;
 use std::sync::Wait;
@@ -21,14 +21,14 @@ fn swept(removed: u64, end: SweepEnd) -> SweepCount {
 fn two_expire<R: Abort + Wait>(rt: &R, alloc: Global, shards: u64) -> Result<(), Fail>
     requires { (1 ≤ shards) × (shards ≤ 64) }
 {
-    let fresh = Store::new(rt, alloc, keepers(alloc, shards)?, 1, LAST_COOKIE, 0)?;
+    let fresh = open(rt, alloc, keepers(alloc, shards)?, 0)?;
     let FreshStore { store, mut roll } = fresh;
-    let mut pass = store.pass(rt, alloc, &mut roll)?;
-    store.ask(rt, &mut pass, write(alloc, b'a', 1)?, 0, &OpenGate);
-    store.ask(rt, &mut pass, write(alloc, b'b', 1)?, 0, &OpenGate);
-    let early = store.sweep(rt, &mut pass, 59_999, &OpenGate);
+    let mut pass = first_pass(rt, alloc, &store, &mut roll)?;
+    answer(rt, &store, &mut pass, write(alloc, b'a', 1)?);
+    answer(rt, &store, &mut pass, write(alloc, b'b', 1)?);
+    let early = sweep(rt, &store, &mut pass, 59_999);
     assert_eq!(rt; early, swept(0, SweepEnd::Clear));
-    let late = store.sweep(rt, &mut pass, 60_000, &OpenGate);
+    let late = sweep(rt, &store, &mut pass, 60_000);
     assert_eq!(rt; late, swept(2, SweepEnd::Clear));
     Ok(())
 }
@@ -60,7 +60,7 @@ fn write_many<R: Wait>(
                 cookie: None,
             },
         };
-        store.ask(rt, pass, write, 0, &OpenGate);
+        answer(rt, store, pass, write);
     }
     Ok(())
 }
@@ -68,13 +68,13 @@ fn write_many<R: Wait>(
 #[test]
 fn a_sweep_removes_a_thousand_items_of_a_shard(rt: HostRuntime) -> Result<(), Fail> {
     let alloc = rt.alloc();
-    let fresh = Store::new(&rt, alloc, keepers(alloc, 1)?, 1, LAST_COOKIE, 0)?;
+    let fresh = open(&rt, alloc, keepers(alloc, 1)?, 0)?;
     let FreshStore { store, mut roll } = fresh;
-    let mut pass = store.pass(&rt, alloc, &mut roll)?;
+    let mut pass = first_pass(&rt, alloc, &store, &mut roll)?;
     write_many(&rt, alloc, &store, &mut pass, 1001)?;
-    let first = store.sweep(&rt, &mut pass, 60_000, &OpenGate);
+    let first = sweep(&rt, &store, &mut pass, 60_000);
     assert_eq!(rt; first, swept(1000, SweepEnd::More));
-    let second = store.sweep(&rt, &mut pass, 60_000, &OpenGate);
+    let second = sweep(&rt, &store, &mut pass, 60_000);
     assert_eq!(rt; second, swept(1, SweepEnd::Clear));
     Ok(())
 }
@@ -85,16 +85,16 @@ fn a_fault_ends_a_sweep(rt: HostRuntime) -> Result<(), Fail> {
     let fails = [0, 3].to_vec(alloc)?;
     let keeper = FaultyKeeper::new(ListKeeper::new(alloc), fails);
     let keepers = vec![in alloc; keeper]?;
-    let fresh = Store::new(&rt, alloc, keepers, 1, LAST_COOKIE, 0)?;
+    let fresh = open(&rt, alloc, keepers, 0)?;
     let FreshStore { store, mut roll } = fresh;
-    let mut pass = store.pass(&rt, alloc, &mut roll)?;
-    let refused = store.ask(&rt, &mut pass, write(alloc, b'a', 1)?, 0, &OpenGate);
+    let mut pass = first_pass(&rt, alloc, &store, &mut roll)?;
+    let refused = answer(&rt, &store, &mut pass, write(alloc, b'a', 1)?);
     assert_eq!(rt; refused.reply, Reply::KeeperFault);
-    let written = store.ask(&rt, &mut pass, write(alloc, b'a', 1)?, 0, &OpenGate);
+    let written = answer(&rt, &store, &mut pass, write(alloc, b'a', 1)?);
     assert_eq!(rt; written.reply, Reply::Done);
-    let first = store.sweep(&rt, &mut pass, 60_000, &OpenGate);
+    let first = sweep(&rt, &store, &mut pass, 60_000);
     assert_eq!(rt; first, swept(0, SweepEnd::KeeperFault));
-    let second = store.sweep(&rt, &mut pass, 60_000, &OpenGate);
+    let second = sweep(&rt, &store, &mut pass, 60_000);
     assert_eq!(rt; second, swept(1, SweepEnd::Clear));
     Ok(())
 }

@@ -1,6 +1,6 @@
 use Rattle.std.proofs.Common.{◌≡◌, ◌+◌, All}
 use Rattle.state_store.specs.Passes.{IsPassOf, IsRollOf, passes_of}
-use Rattle.state_store.proofs.tests.threads.make_passes.Given as goal
+use Rattle.store_tests.proofs.threads.make_passes.Given as goal
 
 abbrev pub invariant-loop : goal.invariant-loop
 invariant-loop g l = record {

@@ -3,11 +3,11 @@ ghost use Rattle.std.specs.Prelude.{◌≡◌, ◌<◌, ◌^◌, All, IfOk, IfSo
 ghost use Rattle.asp_messages.specs.Ranges.{CookieFits, ReplyFits};
 ghost use Rattle.state_store.specs.Passes.{IsPassOf, IsRollOf, passes_of};
 
-use super::{LAST_COOKIE, keepers, on_key};
-use crate::{FreshStore, Pass, Roll, Store};
-use asp_base::{Bytes, NoMemory, OpenGate};
+use crate::given::{answer, first_pass, keepers, on_key, open};
+use asp_base::{Bytes, NoMemory};
 use asp_messages::{Ask, Reply};
 use keeper::{FaultyKeeper, Keeper, ListKeeper};
+use state_store::{FreshStore, Pass, Roll, Store};
 use std::alloc::{AllocError, Global};
 use std::process::Abort;
 use std::sync::Wait;
@@ -55,7 +55,7 @@ fn acquire<K: Keeper + Drop, R: Wait>(
 {
     for _ in 0..ATTEMPTS {
         let request = on_key(alloc, b'a', Ask::Acquire).ok()?;
-        let answer = store.ask(rt, pass, request, 0, &OpenGate);
+        let answer = answer(rt, store, pass, request);
         if let Some(grant) = grant_in(answer.reply) {
             return Some(grant);
         }
@@ -86,7 +86,7 @@ fn set<K: Keeper + Drop, R: Wait>(
             cookie,
         };
         let request = on_key(alloc, b'a', ask).ok()?;
-        match store.ask(rt, pass, request, 0, &OpenGate).reply {
+        match answer(rt, store, pass, request).reply {
             Reply::Done => return Some(()),
             Reply::KeeperFault => {}
             _ => return None,
@@ -162,7 +162,7 @@ fn count<K: Keeper + Drop + Send, R: Abort + Threads + Wait + Sync>(
     requires no_pass { passes_of fresh.roll ≡ 0 }
 {
     let FreshStore { store, mut roll } = fresh;
-    let mut own = store.pass(rt, alloc, &mut roll)?;
+    let mut own = first_pass(rt, alloc, &store, &mut roll)?;
     set(rt, alloc, &store, &mut own, 0, None).ok_or("no counter")?;
     let passes = make_passes(rt, alloc, &store, &mut roll)?;
     let passes = all_add(rt, alloc, &store, passes)?;
@@ -175,7 +175,7 @@ fn count<K: Keeper + Drop + Send, R: Abort + Threads + Wait + Sync>(
 #[test]
 fn no_addition_is_lost(rt: HostRuntime) -> Result<(), Fail> {
     let alloc = rt.alloc();
-    let fresh = Store::new(&rt, alloc, keepers(alloc, 8)?, 1, LAST_COOKIE, 0)?;
+    let fresh = open(&rt, alloc, keepers(alloc, 8)?, 0)?;
     count(&rt, alloc, fresh)
 }
 
@@ -187,6 +187,6 @@ fn no_addition_is_lost_where_calls_fail(rt: HostRuntime) -> Result<(), Fail> {
         fails.push(call * 7)?;
     }
     let keeper = FaultyKeeper::new(ListKeeper::new(alloc), fails);
-    let fresh = Store::new(&rt, alloc, vec![in alloc; keeper]?, 1, LAST_COOKIE, 0)?;
+    let fresh = open(&rt, alloc, vec![in alloc; keeper]?, 0)?;
     count(&rt, alloc, fresh)
 }
