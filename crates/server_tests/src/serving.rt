@@ -1,5 +1,5 @@
 //! Workers that serve by the words of a command line.
-ghost use Rattle.std.specs.Prelude.{◌≡◌, ◌≢◌, ◌≤◌, ◌⊎◌, All, None, length, IfOk, IsTrue};
+ghost use Rattle.std.specs.Prelude.{◌≡◌, ◌≢◌, ◌≤◌, ◌^◌, ◌⊎◌, All, None, length, IfOk, IsTrue};
 ghost use Rattle.state_store.specs.Passes.{IsPassOf};
 
 use crate::memory::{DONE, MemoryWorker, joined, keepers, worker};
@@ -7,7 +7,7 @@ use asp_base::{Bytes, OpenGate};
 use asp_messages::{Ask, Reply, Request};
 use keeper::MapKeeper;
 use serve_command::serve;
-use state_store::{Pass, Store};
+use state_store::{Answer, Pass, Store};
 use std::alloc::Global;
 use std::process::Abort;
 use std::sync::Wait;
@@ -86,6 +86,27 @@ fn has_served(worker: &MemoryWorker, connections: usize) -> bool {
         })
 }
 
+/// Reads the item under the letter at the moment. `None` is want of memory.
+pub fn read_item<R: Wait>(
+    rt: &R,
+    alloc: Global,
+    store: &Store<MapKeeper>,
+    pass: &mut Pass<MapKeeper>,
+    letter: u8,
+    t: u64,
+) -> Option<Answer>
+    requires pass { IsPassOf store.now pass.old }
+    requires moment { t ≤ 2 ^ 62 }
+    ensures { IsPassOf store.now pass.new }
+{
+    let key = Bytes::copy(alloc, &[b'/', letter]).ok()?;
+    let request = Request {
+        key,
+        ask: Ask::Read,
+    };
+    Some(store.ask(rt, pass, request, t, &OpenGate))
+}
+
 /// Reads the item under the letter, and finds what is wanted. `None` is want of memory.
 fn find<R: Abort + Wait>(
     rt: &R,
@@ -98,12 +119,7 @@ fn find<R: Abort + Wait>(
     ensures { IsPassOf store.now pass.new }
 {
     let (letter, content, place) = *found;
-    let key = Bytes::copy(alloc, &[b'/', letter]).ok()?;
-    let request = Request {
-        key,
-        ask: Ask::Read,
-    };
-    let answer = store.ask(rt, pass, request, 0, &OpenGate);
+    let answer = read_item(rt, alloc, store, pass, letter, 0)?;
     assert_eq!(rt; answer.place, Some(place), "{letter}");
     match (&answer.reply, content) {
         (Reply::Found { body, .. }, Some(content)) => assert!(rt; body.as_slice() == content),
