@@ -1,18 +1,20 @@
-//! Workers that serve by the words of a command line.
-ghost use Rattle.std.specs.Prelude.{◌≡◌, ◌≢◌, ◌≤◌, ◌^◌, ◌⊎◌, All, None, length, IfOk, IsTrue};
+//! Workers that serve, also by the words of a command line, and what is found in their store then.
+ghost use Rattle.std.specs.Prelude.{◌≡◌, ◌≢◌, ◌≤◌, ◌^◌, ◌⊎◌, All, None, length, IfOk, IfSome, IsTrue};
 ghost use Rattle.state_store.specs.Passes.{IsPassOf};
 
 use crate::memory::{DONE, MemoryWorker, joined, keepers, worker};
-use asp_base::{Bytes, OpenGate};
+use asp_base::{Bytes, Clock, Gate, OpenGate};
 use asp_messages::{Ask, Reply, Request};
 use keeper::MapKeeper;
 use serve_command::serve;
 use state_store::{Answer, Pass, Store};
 use std::alloc::Global;
 use std::process::Abort;
+use std::rt::Clock as HostTime;
 use std::sync::Wait;
 use std::test::Fail;
-use stream_server::{Served, StreamEnd};
+use std::thread::Threads;
+use stream_server::{Door, Served, StreamEnd, Worker, serve_all};
 
 /// What is found under a letter: the content, or nothing, and how many entries the history of its
 /// shard had.
@@ -147,10 +149,53 @@ pub fn find_all<R: Abort + Wait>(
 }
 
 /// Whether the status is none of want of memory.
-pub fn had_memory(status: u8) -> bool
+fn had_memory(status: u8) -> bool
     ensures { IsTrue result → status ≢ 6 }
 {
     status != 6
+}
+
+/// The store over which workers served, and their passes.
+#[derive(Drop)]
+pub struct Kept {
+    /// The store.
+    pub store: Store<MapKeeper>,
+    /// The workers' passes, in order.
+    pub passes: Vec<Pass<MapKeeper>>,
+}
+
+/// The workers serve over a new store of so many shards, and no door fails. `None` is want of
+/// memory.
+pub fn serve_new<
+    R: Abort + Threads + Wait + HostTime + Sync,
+    D: Door + Send,
+    C: Clock + Send,
+    G: Gate + Sync,
+>(
+    rt: &R,
+    alloc: Global,
+    shards: u64,
+    workers: &mut [Worker<D, C, MapKeeper>],
+    gate: &G,
+) -> Option<Kept>
+    requires shards { (1 ≤ shards) × (shards ≤ 64) }
+    requires workers { (1 ≤ length workers.old) × (length workers.old ≤ 64) }
+    requires no_pass { All (λ w. w.pass ≡ None) workers.old }
+    ensures met { IfSome result (λ kept. All (IsPassOf kept.store) kept.passes.items) }
+{
+    let keepers = keepers(alloc, shards).ok()?;
+    let served = serve_all(rt, alloc, keepers, workers, gate);
+    let Served {
+        status,
+        store,
+        passes,
+    } = served;
+    assert_eq!(rt; status, 0);
+    assert!(rt; had_memory(status));
+    let Some(store) = store else {
+        return None;
+    };
+    Some(Kept { store, passes })
 }
 
 /// Whether the status is that of workers that served.
