@@ -11,4 +11,6 @@ mod replies;
 #[cfg(test)]
 mod requests;
 #[cfg(test)]
+mod spellings;
+#[cfg(test)]
 mod tests;

@@ -1,5 +1,4 @@
 //! Visits by words, and what they print.
-use crate::{visit, visit_port};
 use asp_base::{Bytes, ListClock, MemorySink};
 use page_link::MemoryLink;
 use std::alloc::Global;
@@ -8,6 +7,7 @@ use std::rt::Clock as HostTime;
 use std::str;
 use std::sync::Wait;
 use std::test::Fail;
+use visit_command::{visit, visit_port};
 
 const WORDS: [&str; 5] = ["visit", "42424", "x2f73", "exclusive", "keep"];
 

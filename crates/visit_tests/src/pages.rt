@@ -1,13 +1,14 @@
+//! A visit by itself, step by step: what it does next, and how it comes out.
 ghost use Rattle.std.specs.Prelude.{◌≤◌, ◌^◌, IfOk, IfSome};
 ghost use Rattle.visit_core.specs.Terms.{HeardFits, EndingFits};
 
-use crate::{Act, Ending, Heard, Limits, Need, Outcome, Visit, limits_fit, outcome_text};
 use asp_base::{Bytes, NoMemory};
 use asp_messages::{Ask, Reply};
 use std::alloc::{AllocError, Global};
 use std::process::Abort;
 use std::str;
 use std::test::Fail;
+use visit_core::{Act, Ending, Heard, Limits, Need, Outcome, Visit, limits_fit, outcome_text};
 
 // What befalls a visit; cookie 0 is none.
 #[derive(Clone, Copy)]
@@ -167,12 +168,22 @@ const LIMITS: Limits = Limits {
     polls: 3,
 };
 
+// A visit of `/s` that has not begun.
+fn new_visit(alloc: Global, need: Need) -> Result<Visit, NoMemory> {
+    Ok(Visit::new(Bytes::copy(alloc, b"/s")?, need, LIMITS))
+}
+
+// The act that is due at the moment.
+fn next_shown(alloc: Global, visit: &Visit, t: u64) -> Result<String, AllocError> {
+    shown(alloc, visit.next(t))
+}
+
 // A visit of `/s`, step by step.
 fn play(rt: &impl Abort, alloc: Global, need: Need, steps: &[Step]) -> Result<(), Fail> {
-    let mut visit = Visit::new(Bytes::copy(alloc, b"/s")?, need, LIMITS);
+    let mut visit = new_visit(alloc, need)?;
     for (t, act, event) in steps {
         let t = (*t).min(1 << 62);
-        assert_eq!(rt; shown(alloc, visit.next(t))?.as_str(), *act, "at {t}");
+        assert_eq!(rt; next_shown(alloc, &visit, t)?.as_str(), *act, "at {t}");
         befall(rt, alloc, &mut visit, t, *event)?;
     }
     Ok(())
@@ -227,12 +238,12 @@ fn act_after(
     before: &[Event],
     last: Event,
 ) -> Result<String, Fail> {
-    let mut visit = Visit::new(Bytes::copy(alloc, b"/s")?, need, LIMITS);
+    let mut visit = new_visit(alloc, need)?;
     for event in before {
         befall(rt, alloc, &mut visit, 0, *event)?;
     }
     befall(rt, alloc, &mut visit, 0, last)?;
-    Ok(shown(alloc, visit.next(0))?)
+    Ok(next_shown(alloc, &visit, 0)?)
 }
 
 // The answers whose meaning depends on the request, and the others.

@@ -1,8 +1,8 @@
 //! Visits over a link in memory: what is sent, and how they end.
 ghost use Rattle.std.specs.Prelude.{◌≤◌, ◌^◌, IfOk, All};
 
-use crate::{MemoryLink, VisitEnd, run_visit};
 use asp_base::{Bytes, ListClock};
+use page_link::{MemoryLink, VisitEnd, run_visit};
 use std::alloc::Global;
 use std::process::Abort;
 use std::rt::Clock as HostTime;
