@@ -1,4 +1,5 @@
-//! The store and what it is made of, at work: shards of many threads. The crate has tests alone.
+//! The store that threads share and what it is made of: turns.
+//! The crate has tests alone.
 #![tactic(auto)]
 
 #[cfg(test)]
@@ -11,3 +12,5 @@ mod sharding;
 mod sweeps;
 #[cfg(test)]
 mod threads;
+#[cfg(test)]
+mod turns;
