@@ -1,7 +1,9 @@
-//! The store that threads share and what it is made of: turns.
+//! The store that threads share and what it is made of: turns and cookies.
 //! The crate has tests alone.
 #![tactic(auto)]
 
+#[cfg(test)]
+mod cookies;
 #[cfg(test)]
 mod given;
 #[cfg(test)]
