@@ -1,4 +1,4 @@
-//! The store that threads share and what it is made of: turns and cookies.
+//! The store that threads share and what it is made of: keepers, cookies and turns.
 //! The crate has tests alone.
 #![tactic(auto)]
 
@@ -8,6 +8,8 @@ mod cookies;
 mod given;
 #[cfg(test)]
 mod histories;
+#[cfg(test)]
+mod keepers;
 #[cfg(test)]
 mod sharding;
 #[cfg(test)]
