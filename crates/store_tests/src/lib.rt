@@ -1,4 +1,4 @@
-//! The store that threads share and what it is made of: keepers, cookies and turns.
+//! The store that threads share and what it is made of: keepers, shards, cookies and turns.
 //! The crate has tests alone.
 #![tactic(auto)]
 
@@ -12,6 +12,8 @@ mod histories;
 mod keepers;
 #[cfg(test)]
 mod sharding;
+#[cfg(test)]
+mod shards;
 #[cfg(test)]
 mod sweeps;
 #[cfg(test)]
