@@ -1,9 +1,11 @@
-//! The store that threads share and what it is made of: keepers, shards, cookies and turns.
+//! The store that threads share and what it is made of: keepers, shards, desks, cookies and turns.
 //! The crate has tests alone.
 #![tactic(auto)]
 
 #[cfg(test)]
 mod cookies;
+#[cfg(test)]
+mod desks;
 #[cfg(test)]
 mod given;
 #[cfg(test)]
