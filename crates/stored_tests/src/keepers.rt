@@ -1,26 +1,22 @@
-//! What no clause says: that the statements are those that are meant, which rows are refused, and
-//! that a shard runs over a database.
+//! What the tests of a keeper over a database share. They show what no clause says: that the
+//! statements are those that are meant, which rows are refused, and that a shard runs over it.
 ghost use Rattle.std.specs.Prelude.{IfOk};
 ghost use Rattle.asp_messages.specs.Ranges.{KeyFits};
 
-mod damaged;
-mod shards;
-mod walks;
-
-use crate::SqliteKeeper;
 use asp_base::{Bytes, NoMemory};
 use sqlite::{Connection, MemStore};
+use sqlite_keeper::SqliteKeeper;
 use std::alloc::Global;
 use std::test::Fail;
 
 /// The key of a slash and this letter.
-fn key(alloc: Global, letter: u8) -> Result<Bytes, NoMemory>
+pub(crate) fn key(alloc: Global, letter: u8) -> Result<Bytes, NoMemory>
     ensures { IfOk result KeyFits }
 {
     Bytes::copy(alloc, &[b'/', letter])
 }
 
 /// A keeper over an empty database in memory.
-fn in_memory(alloc: Global) -> Result<SqliteKeeper<MemStore>, Fail> {
+pub(crate) fn in_memory(alloc: Global) -> Result<SqliteKeeper<MemStore>, Fail> {
     Ok(SqliteKeeper::over(alloc, Connection::open_in_memory(alloc)?)?)
 }

@@ -1,39 +1,15 @@
 //! A desk at work over a keeper in memory.
-ghost use Rattle.std.specs.Prelude.{IfOk};
+ghost use Rattle.std.specs.Prelude.{◌≤◌, ◌^◌};
 ghost use Rattle.asp_messages.specs.Ranges.{RequestFits};
 
-use crate::{Acted, Desk};
+use crate::given::{LAST_COOKIE, on_key, write};
 use asp_base::{Bytes, NoMemory};
 use asp_messages::{Ask, Reply, Request};
+use desk::{Acted, Desk};
 use keeper::ListKeeper;
 use shard_core::Swept;
 use std::alloc::Global;
 use std::test::Fail;
-
-const LAST_COOKIE: u64 = 9_223_372_036_854_775_807;
-
-fn write(alloc: Global, letter: u8) -> Result<Request, NoMemory>
-    ensures { IfOk result RequestFits }
-{
-    Ok(Request {
-        key: Bytes::copy(alloc, &[b'/', letter])?,
-        ask: Ask::Write {
-            body: Bytes::copy(alloc, b"x")?,
-            minutes: 1,
-            fresh: false,
-            cookie: None,
-        },
-    })
-}
-
-fn acquire(alloc: Global, letter: u8) -> Result<Request, NoMemory>
-    ensures { IfOk result RequestFits }
-{
-    Ok(Request {
-        key: Bytes::copy(alloc, &[b'/', letter])?,
-        ask: Ask::Acquire,
-    })
-}
 
 /// What an acquire is answered that found the item of `write` free.
 fn granted(alloc: Global, cookie: u64) -> Result<Acted, NoMemory> {
@@ -48,6 +24,21 @@ fn granted(alloc: Global, cookie: u64) -> Result<Acted, NoMemory> {
     })
 }
 
+/// What the desk answers.
+fn act(desk: &mut Desk<ListKeeper>, request: Request, t: u64) -> Acted
+    requires request { RequestFits request }
+    requires moment { t ≤ 2 ^ 62 }
+{
+    desk.act(request, t)
+}
+
+/// What the desk removes.
+fn sweep_one(desk: &mut Desk<ListKeeper>, t: u64) -> Swept
+    requires { t ≤ 2 ^ 62 }
+{
+    desk.sweep_one(t)
+}
+
 #[test]
 fn the_last_cookie_is_granted_once(rt: HostRuntime) -> Result<(), Fail> {
     let alloc = rt.alloc();
@@ -56,17 +47,20 @@ fn the_last_cookie_is_granted_once(rt: HostRuntime) -> Result<(), Fail> {
         reply: Reply::Done,
         drawn: 0,
     };
-    assert_eq!(rt; desk.act(write(alloc, b'a')?, 0), done);
-    assert_eq!(rt; desk.act(write(alloc, b'b')?, 1000), done);
+    assert_eq!(rt; act(&mut desk, write(alloc, b'a', 1)?, 0), done);
+    assert_eq!(rt; act(&mut desk, write(alloc, b'b', 1)?, 1000), done);
     assert_eq!(rt;
-        desk.act(acquire(alloc, b'a')?, 2000),
+        act(&mut desk, on_key(alloc, b'a', Ask::Acquire)?, 2000),
         granted(alloc, LAST_COOKIE)?
     );
     let none_left = Acted {
         reply: Reply::CookiesOut,
         drawn: 0,
     };
-    assert_eq!(rt; desk.act(acquire(alloc, b'b')?, 3000), none_left);
+    assert_eq!(rt;
+        act(&mut desk, on_key(alloc, b'b', Ask::Acquire)?, 3000),
+        none_left
+    );
     Ok(())
 }
 
@@ -74,15 +68,15 @@ fn the_last_cookie_is_granted_once(rt: HostRuntime) -> Result<(), Fail> {
 fn expired_items_are_removed_in_their_order(rt: HostRuntime) -> Result<(), Fail> {
     let alloc = rt.alloc();
     let mut desk = Desk::new(alloc, ListKeeper::new(alloc), 1, LAST_COOKIE);
-    desk.act(write(alloc, b'a')?, 0);
-    desk.act(write(alloc, b'b')?, 0);
-    assert_eq!(rt; desk.sweep_one(59_999), Swept::Nothing);
+    act(&mut desk, write(alloc, b'a', 1)?, 0);
+    act(&mut desk, write(alloc, b'b', 1)?, 0);
+    assert_eq!(rt; sweep_one(&mut desk, 59_999), Swept::Nothing);
     for letter in [b'a', b'b'] {
         let removed = Swept::Removed {
             key: Bytes::copy(alloc, &[b'/', letter])?,
         };
-        assert_eq!(rt; desk.sweep_one(60_000), removed);
+        assert_eq!(rt; sweep_one(&mut desk, 60_000), removed);
     }
-    assert_eq!(rt; desk.sweep_one(60_000), Swept::Nothing);
+    assert_eq!(rt; sweep_one(&mut desk, 60_000), Swept::Nothing);
     Ok(())
 }

@@ -2,12 +2,12 @@
 ghost use Rattle.std.specs.Prelude.{IfOk};
 ghost use Rattle.session_machine.specs.Liveness.{ItemFits};
 
-use super::{in_memory, key};
-use crate::SqliteKeeper;
+use crate::keepers::{in_memory, key};
 use asp_base::{Bytes, NoMemory};
 use keeper::{KeepError, Keeper};
 use session_machine::{Hold, Item};
 use sqlite::MemStore;
+use sqlite_keeper::SqliteKeeper;
 use std::alloc::Global;
 use std::test::Fail;
 

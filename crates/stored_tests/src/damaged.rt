@@ -1,8 +1,8 @@
 //! Rows that are no key or no item in range, and tables of another form.
-use super::{in_memory, key};
-use crate::SqliteKeeper;
+use crate::keepers::{in_memory, key};
 use keeper::{KeepError, Keeper};
 use sqlite::{Connection, MemStore, params};
+use sqlite_keeper::SqliteKeeper;
 use std::alloc::Global;
 use std::test::Fail;
 

@@ -1,17 +1,31 @@
+//! Cookies drawn by one thread and by two.
 ghost use Rattle.std.specs.Prelude.{◌≡◌, All, IfSome};
 ghost use Rattle.cookie_source.specs.Source.{source_id, drawer_home, IsNewDrawer};
 
-use crate::{CookieSource, Drawer, FreshCookies, PlainCookies};
+use cookie_source::{CookieSource, Drawer, FreshCookies, PlainCookies};
 use std::test::Fail;
 use std::thread::{Threads, join};
+
+/// The next of one thread's cookies.
+fn next(cookies: &mut PlainCookies) -> Option<u64> {
+    cookies.draw()
+}
+
+/// What the drawer draws.
+fn draw<R>(rt: &R, source: &CookieSource, drawer: &mut Drawer) -> Option<u64>
+    requires home { drawer_home drawer.old ≡ source_id source.now }
+    ensures home { drawer_home drawer.new ≡ drawer_home drawer.old }
+{
+    source.draw(rt, drawer)
+}
 
 #[test]
 fn plain_cookies_end_after_the_last(rt: HostRuntime) {
     let mut cookies = PlainCookies::new(5, 6);
-    assert_eq!(rt; cookies.draw(), Some(5));
-    assert_eq!(rt; cookies.draw(), Some(6));
-    assert_eq!(rt; cookies.draw(), None);
-    assert_eq!(rt; cookies.draw(), None);
+    assert_eq!(rt; next(&mut cookies), Some(5));
+    assert_eq!(rt; next(&mut cookies), Some(6));
+    assert_eq!(rt; next(&mut cookies), None);
+    assert_eq!(rt; next(&mut cookies), None);
 }
 
 #[test]
@@ -19,9 +33,9 @@ fn one_drawer_ends_after_the_last(rt: HostRuntime) -> Result<(), Fail> {
     let mut cookies = CookieSource::new(&rt, rt.alloc(), 5, 6, 1)?;
     let mut drawer = cookies.drawers.pop().expect(&rt, "one drawer");
     let source = &cookies.source;
-    assert_eq!(rt; source.draw(&rt, &mut drawer), Some(5));
-    assert_eq!(rt; source.draw(&rt, &mut drawer), Some(6));
-    assert_eq!(rt; source.draw(&rt, &mut drawer), None);
+    assert_eq!(rt; draw(&rt, source, &mut drawer), Some(5));
+    assert_eq!(rt; draw(&rt, source, &mut drawer), Some(6));
+    assert_eq!(rt; draw(&rt, source, &mut drawer), None);
     Ok(())
 }
 
@@ -31,7 +45,7 @@ fn draw_often<R>(rt: &R, source: &CookieSource, mut drawer: Drawer, count: u64) 
 {
     let mut sum = 0u64;
     for _ in 0..count {
-        sum = sum.wrapping_add(source.draw(rt, &mut drawer).unwrap_or(0));
+        sum = sum.wrapping_add(draw(rt, source, &mut drawer).unwrap_or(0));
     }
     sum
 }
@@ -60,7 +74,7 @@ fn two_draw<R: Threads + Sync>(rt: &R, cookies: FreshCookies) -> Option<(u64, Op
         || draw_often(rt, &source, a, 1000),
         || draw_often(rt, &source, b, 1000),
     );
-    Some((a.wrapping_add(b), source.draw(rt, &mut c)))
+    Some((a.wrapping_add(b), draw(rt, &source, &mut c)))
 }
 
 #[test]

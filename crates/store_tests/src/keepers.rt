@@ -5,8 +5,8 @@ ghost use Rattle.session_machine.specs.Liveness.{ItemFits};
 ghost use Rattle.keeper.specs.Faulty.{all_faults};
 ghost use Rattle.keeper.specs.Items.{IsEmptyTold};
 
-use crate::{FaultyKeeper, KeepError, Keeper, ListKeeper, MapKeeper};
 use asp_base::{Bytes, NoMemory};
+use keeper::{FaultyKeeper, KeepError, Keeper, ListKeeper, MapKeeper};
 use session_machine::Item;
 use std::alloc::{AllocError, Global};
 use std::process::Abort;
