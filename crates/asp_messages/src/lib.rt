@@ -10,8 +10,6 @@ mod reply;
 mod reply_text;
 mod request;
 mod request_text;
-#[cfg(test)]
-mod tests;
 mod wire;
 
 pub use append::{or_undo, push, push_hex, push_number, then_number};

@@ -9,6 +9,3 @@ mod source;
 pub use plain::PlainCookies;
 pub use rule::DrawerView;
 pub use source::{CookieSource, Drawer, FreshCookies};
-
-#[cfg(test)]
-mod tests;

@@ -20,6 +20,3 @@ pub use keeping::Keeper;
 pub use list_keeper::ListKeeper;
 pub use map_keeper::MapKeeper;
 pub use ran::Ran;
-
-#[cfg(test)]
-mod tests;

@@ -17,6 +17,3 @@ pub use memory_link::MemoryLink;
 pub use tcp_link::TcpLink;
 pub use visit_end::VisitEnd;
 pub use visiting::run_visit;
-
-#[cfg(test)]
-mod tests;

@@ -1,7 +1,8 @@
 //! Shards are served at once: no lock stands round the store, and no thread serves all workers.
 ghost use Rattle.std.specs.Prelude.{◌≡◌, All, None, length, IfOk};
 
-use crate::memory::{DONE, MemoryWorker, joined, keepers, worker};
+use crate::memory::{DONE, MemoryWorker, joined, worker};
+use crate::serving::serve_new;
 use asp_base::Gate;
 use std::alloc::Global;
 use std::str;
@@ -9,7 +10,7 @@ use std::sync::Wait;
 use std::sync::atomic::{AtomicBool, AtomicU64, Ordering};
 use std::test::Fail;
 use std::thread::yield_now;
-use stream_server::{StreamEnd, serve_all};
+use stream_server::StreamEnd;
 
 /// A bit for each of the eight shards.
 const ALL_SHARDS: u64 = 0xff;
@@ -67,14 +68,9 @@ fn shards_are_served_at_once(rt: HostRuntime) -> Result<(), Fail> {
         gave_up: AtomicBool::new(false),
     };
     let mut workers = eight_workers(alloc)?;
-    let served = serve_all(
-        &rt,
-        alloc,
-        keepers(alloc, 8)?,
-        workers.as_mut_slice(),
-        &gate,
-    );
-    assert_eq!(rt; served.status, 0);
+    let Some(_kept) = serve_new(&rt, alloc, 8, workers.as_mut_slice(), &gate) else {
+        return Err("no store".into());
+    };
     assert!(rt; !gate.gave_up.load(Ordering::SeqCst));
     assert_eq!(rt; gate.seen.load(Ordering::SeqCst), ALL_SHARDS);
     for worker in workers.iter() {

@@ -2,17 +2,18 @@
 ghost use Rattle.std.specs.Prelude.{◌≡◌, ◌≤◌, All, None, length, IfOk};
 
 use crate::clients::{ACQUIRE, Clients, NOTHING, OPEN, STEP, Steps, ask_of, client, code_after};
-use crate::memory::{keepers, sink, source};
-use crate::serving::{find_all, had_memory};
+use crate::memory::{sink, source};
+use crate::serving::{Kept, find_all, serve_new};
 use asp_base::{NoMemory, OpenGate};
 use asp_messages::{Reply, push, push_number, spell_ask, spell_reply, then_number};
 use journal_replay::run_replay;
 use keeper::MapKeeper;
 use std::alloc::Global;
+use std::process::Abort;
 use std::str;
 use std::sync::atomic::AtomicU64;
 use std::test::Fail;
-use stream_server::{Served, Worker, serve_all};
+use stream_server::Worker;
 
 /// How many connections each of the two workers has.
 const EACH: usize = 10;
@@ -233,28 +234,8 @@ fn work_of(alloc: Global, worker: Option<Hot<'_>>, caller: u64) -> Result<Vec<St
     steps_of(alloc, caller, caller.min(1) * (STEP / 2), first, door.heard)
 }
 
-#[test]
-fn twenty_connections_on_one_key_are_one_legal_history(rt: HostRuntime) -> Result<(), Fail> {
-    let alloc = rt.alloc();
-    let (first, second) = (nexts_of(alloc, EACH)?, nexts_of(alloc, EACH)?);
-    let mut workers = workers_of(alloc, &first, &second)?;
-    let served = serve_all(
-        &rt,
-        alloc,
-        keepers(alloc, 1)?,
-        workers.as_mut_slice(),
-        &OpenGate,
-    );
-    let Served {
-        status,
-        store,
-        passes,
-    } = served;
-    assert_eq!(rt; status, 0);
-    assert!(rt; had_memory(status));
-    let second = work_of(alloc, workers.pop(), 1)?;
-    let first = work_of(alloc, workers.pop(), 0)?;
-    let (journal, entries) = journal_of(alloc, first, second)?;
+/// The journal is judged legal, with so many entries.
+fn judge<R: Abort>(rt: &R, alloc: Global, journal: Vec<u8>, entries: u64) -> Result<(), Fail> {
     let mut input = source(alloc, journal, 16_384, &[])?;
     let mut output = sink(alloc, 256, 256, &[])?;
     let replayed = run_replay(alloc, 1 << 40, &mut input, &mut output);
@@ -265,9 +246,22 @@ fn twenty_connections_on_one_key_are_one_legal_history(rt: HostRuntime) -> Resul
         str::from_utf8(want.as_slice())
     );
     assert_eq!(rt; replayed, 0);
-    let Some(store) = store else {
+    Ok(())
+}
+
+#[test]
+fn twenty_connections_on_one_key_are_one_legal_history(rt: HostRuntime) -> Result<(), Fail> {
+    let alloc = rt.alloc();
+    let (first, second) = (nexts_of(alloc, EACH)?, nexts_of(alloc, EACH)?);
+    let mut workers = workers_of(alloc, &first, &second)?;
+    let Some(kept) = serve_new(&rt, alloc, 1, workers.as_mut_slice(), &OpenGate) else {
         return Err("no store".into());
     };
+    let second = work_of(alloc, workers.pop(), 1)?;
+    let first = work_of(alloc, workers.pop(), 0)?;
+    let (journal, entries) = journal_of(alloc, first, second)?;
+    judge(&rt, alloc, journal, entries)?;
+    let Kept { store, passes } = kept;
     // Twenty clients, and five additions for each.
     let found = [(b'a', Some([100].as_slice()), entries)];
     find_all(&rt, alloc, &store, passes, &found).ok_or("no pass")?;

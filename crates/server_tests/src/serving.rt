@@ -1,18 +1,20 @@
-//! Workers that serve by the words of a command line.
-ghost use Rattle.std.specs.Prelude.{◌≡◌, ◌≢◌, ◌≤◌, ◌⊎◌, All, None, length, IfOk, IsTrue};
+//! Workers that serve, also by the words of a command line, and what is found in their store then.
+ghost use Rattle.std.specs.Prelude.{◌≡◌, ◌≢◌, ◌≤◌, ◌^◌, ◌⊎◌, [], All, None, length, IfOk, IfSome, IsTrue};
 ghost use Rattle.state_store.specs.Passes.{IsPassOf};
 
 use crate::memory::{DONE, MemoryWorker, joined, keepers, worker};
-use asp_base::{Bytes, OpenGate};
+use asp_base::{Bytes, Clock, Gate, OpenGate};
 use asp_messages::{Ask, Reply, Request};
 use keeper::MapKeeper;
 use serve_command::serve;
-use state_store::{Pass, Store};
+use state_store::{Answer, Pass, Store};
 use std::alloc::Global;
 use std::process::Abort;
+use std::rt::Clock as HostTime;
 use std::sync::Wait;
 use std::test::Fail;
-use stream_server::{Served, StreamEnd};
+use std::thread::Threads;
+use stream_server::{Door, Served, StreamEnd, Worker, serve_all};
 
 /// What is found under a letter: the content, or nothing, and how many entries the history of its
 /// shard had.
@@ -86,6 +88,27 @@ fn has_served(worker: &MemoryWorker, connections: usize) -> bool {
         })
 }
 
+/// Reads the item under the letter at the moment. `None` is want of memory.
+pub fn read_item<R: Wait>(
+    rt: &R,
+    alloc: Global,
+    store: &Store<MapKeeper>,
+    pass: &mut Pass<MapKeeper>,
+    letter: u8,
+    t: u64,
+) -> Option<Answer>
+    requires pass { IsPassOf store.now pass.old }
+    requires moment { t ≤ 2 ^ 62 }
+    ensures { IsPassOf store.now pass.new }
+{
+    let key = Bytes::copy(alloc, &[b'/', letter]).ok()?;
+    let request = Request {
+        key,
+        ask: Ask::Read,
+    };
+    Some(store.ask(rt, pass, request, t, &OpenGate))
+}
+
 /// Reads the item under the letter, and finds what is wanted. `None` is want of memory.
 fn find<R: Abort + Wait>(
     rt: &R,
@@ -98,12 +121,7 @@ fn find<R: Abort + Wait>(
     ensures { IsPassOf store.now pass.new }
 {
     let (letter, content, place) = *found;
-    let key = Bytes::copy(alloc, &[b'/', letter]).ok()?;
-    let request = Request {
-        key,
-        ask: Ask::Read,
-    };
-    let answer = store.ask(rt, pass, request, 0, &OpenGate);
+    let answer = read_item(rt, alloc, store, pass, letter, 0)?;
     assert_eq!(rt; answer.place, Some(place), "{letter}");
     match (&answer.reply, content) {
         (Reply::Found { body, .. }, Some(content)) => assert!(rt; body.as_slice() == content),
@@ -131,10 +149,53 @@ pub fn find_all<R: Abort + Wait>(
 }
 
 /// Whether the status is none of want of memory.
-pub fn had_memory(status: u8) -> bool
+fn had_memory(status: u8) -> bool
     ensures { IsTrue result → status ≢ 6 }
 {
     status != 6
+}
+
+/// The store over which workers served, and their passes.
+#[derive(Drop)]
+pub struct Kept {
+    /// The store.
+    pub store: Store<MapKeeper>,
+    /// The workers' passes, in order.
+    pub passes: Vec<Pass<MapKeeper>>,
+}
+
+/// The workers serve over a new store of so many shards, and no door fails. `None` is want of
+/// memory.
+pub fn serve_new<
+    R: Abort + Threads + Wait + HostTime + Sync,
+    D: Door + Send,
+    C: Clock + Send,
+    G: Gate + Sync,
+>(
+    rt: &R,
+    alloc: Global,
+    shards: u64,
+    workers: &mut [Worker<D, C, MapKeeper>],
+    gate: &G,
+) -> Option<Kept>
+    requires shards { (1 ≤ shards) × (shards ≤ 64) }
+    requires workers { (1 ≤ length workers.old) × (length workers.old ≤ 64) }
+    requires no_pass { All (λ w. w.pass ≡ None) workers.old }
+    ensures met { IfSome result (λ kept. All (IsPassOf kept.store) kept.passes.items) }
+{
+    let keepers = keepers(alloc, shards).ok()?;
+    let served = serve_all(rt, alloc, keepers, workers, gate);
+    let Served {
+        status,
+        store,
+        passes,
+    } = served;
+    assert_eq!(rt; status, 0);
+    assert!(rt; had_memory(status));
+    let Some(store) = store else {
+        return None;
+    };
+    Some(Kept { store, passes })
 }
 
 /// Whether the status is that of workers that served.
@@ -144,36 +205,76 @@ fn have_served(status: u8) -> bool
     status == 0 || status == 9
 }
 
+/// What serving by words left: the status, whether there is a store, and how many passes there are.
+#[derive(Drop)]
+struct Left {
+    status: u8,
+    stored: bool,
+    passes: usize,
+}
+
+/// The workers serve by the words over the keepers, and the store, where there is one, is found so.
+fn serve_by<R: Abort + Threads + Wait + HostTime + Sync>(
+    rt: &R,
+    alloc: Global,
+    words: &str,
+    keepers: Vec<MapKeeper>,
+    workers: &mut [MemoryWorker],
+    found: &[Found],
+) -> Result<Left, Fail>
+    requires shards { (1 ≤ length keepers.items) × (length keepers.items ≤ 64) }
+    requires keepers { All (λ k. k ≡ []) keepers.items }
+    requires no_pass { All (λ w. w.pass ≡ None) workers.old }
+    ensures unchanged { IfOk result (λ left. left.status ≡ 2 → workers.new ≡ workers.old) }
+{
+    let words = words_of(alloc, words)?;
+    let served = serve(rt, alloc, &words, keepers, workers, &OpenGate);
+    let Served {
+        status,
+        store,
+        passes,
+    } = served;
+    let left = Left {
+        status,
+        stored: store.is_some(),
+        passes: passes.len(),
+    };
+    let Some(store) = store else {
+        return Ok(left);
+    };
+    assert!(rt; have_served(status));
+    find_all(rt, alloc, &store, passes, found).ok_or("no pass")?;
+    Ok(left)
+}
+
+/// Two workers serve so.
+fn check<R: Abort + Threads + Wait + HostTime + Sync>(
+    rt: &R,
+    alloc: Global,
+    case: &Case,
+) -> Result<(), Fail> {
+    let mut workers = two_workers(alloc, case.fails)?;
+    let left = serve_by(
+        rt,
+        alloc,
+        "serve 42424 2 1",
+        keepers(alloc, case.shards.clamp(1, 64))?,
+        workers.as_mut_slice(),
+        case.found,
+    )?;
+    assert_eq!(rt; left.status, case.status);
+    assert!(rt; left.stored);
+    assert_eq!(rt; left.passes, 2);
+    assert_eq!(rt; workers.len(), 2);
+    assert!(rt; has_served(&workers[0], 1 - case.fails.len().min(1)));
+    assert!(rt; has_served(&workers[1], 1));
+    Ok(())
+}
+
 #[test]
 fn two_workers_serve_one_store(rt: HostRuntime) -> Result<(), Fail> {
-    let alloc = rt.alloc();
-    let words = words_of(alloc, "serve 42424 2 1")?;
     for case in CASES.iter() {
-        let mut workers = two_workers(alloc, case.fails)?;
-        let keepers = keepers(alloc, case.shards.clamp(1, 64))?;
-        let served = serve(
-            &rt,
-            alloc,
-            &words,
-            keepers,
-            workers.as_mut_slice(),
-            &OpenGate,
-        );
-        let Served {
-            status,
-            store,
-            passes,
-        } = served;
-        assert_eq!(rt; status, case.status);
-        assert!(rt; have_served(status));
-        assert_eq!(rt; workers.len(), 2);
-        assert!(rt; has_served(&workers[0], 1 - case.fails.len().min(1)));
-        assert!(rt; has_served(&workers[1], 1));
-        assert_eq!(rt; passes.len(), 2);
-        let Some(store) = store else {
-            return Err("no store".into());
-        };
-        find_all(&rt, alloc, &store, passes, case.found).ok_or("no pass")?;
+        check(&rt, rt.alloc(), case)?;
     }
     Ok(())
 }
@@ -183,29 +284,27 @@ fn other_words_leave_the_doors_alone(rt: HostRuntime) -> Result<(), Fail> {
     let alloc = rt.alloc();
     let text = joined(alloc, &["PUT /b HTTP/1.1\r\nContent-Length: 1\r\n\r\nx"])?;
     let mut workers = vec![in alloc; worker(alloc, text, &[])?]?;
-    let words = words_of(alloc, "serve 42424 2 1")?;
-    let refused = serve(
+    let refused = serve_by(
         &rt,
         alloc,
-        &words,
+        "serve 42424 2 1",
         keepers(alloc, 1)?,
         workers.as_mut_slice(),
-        &OpenGate,
-    );
+        &[],
+    )?;
     assert_eq!(rt; refused.status, 2);
-    assert!(rt; refused.store.is_none());
-    assert!(rt; refused.passes.is_empty());
+    assert!(rt; !refused.stored);
+    assert_eq!(rt; refused.passes, 0);
     assert_eq!(rt; workers.len(), 1);
     assert!(rt; has_served(&workers[0], 0));
-    let words = words_of(alloc, "serve 42424 1 1")?;
-    let served = serve(
+    let served = serve_by(
         &rt,
         alloc,
-        &words,
+        "serve 42424 1 1",
         keepers(alloc, 1)?,
         workers.as_mut_slice(),
-        &OpenGate,
-    );
+        &[],
+    )?;
     assert_eq!(rt; served.status, 0);
     assert_eq!(rt; workers.len(), 1);
     assert!(rt; has_served(&workers[0], 1));

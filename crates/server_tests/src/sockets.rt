@@ -1,8 +1,8 @@
 //! The server over sockets, with one worker.
 ghost use Rattle.visit_core.specs.Terms.{EndingFits};
 
-use crate::memory::{BAD, DONE, joined, keepers};
-use crate::serving::{Found, find_all, had_memory};
+use crate::memory::{BAD, DONE, joined};
+use crate::serving::{Found, Kept, find_all, serve_new};
 use asp_base::{Bytes, Clock, HostClock, OpenGate};
 use page_link::{TcpLink, VisitEnd, run_visit};
 use std::alloc::Global;
@@ -14,7 +14,7 @@ use std::sync::Wait;
 use std::test::Fail;
 use std::thread::{Threads, join, sleep};
 use std::time::{Duration, SystemTime};
-use stream_server::{Served, TcpDoor, Worker, serve_all};
+use stream_server::{TcpDoor, Worker};
 use visit_core::{Ending, Limits, Need, Outcome, Visit};
 
 /// A listener on a port of the machine itself that was free, and the port.
@@ -37,18 +37,8 @@ fn serve_some<R: Abort + Threads + Wait + HostTime + Sync>(
 ) -> Option<()> {
     let worker = Worker::new(TcpDoor::new(listener, connections), HostClock);
     let mut workers = vec![in alloc; worker].ok()?;
-    let keepers = keepers(alloc, 8).ok()?;
-    let served = serve_all(rt, alloc, keepers, workers.as_mut_slice(), &OpenGate);
-    let Served {
-        status,
-        store,
-        passes,
-    } = served;
-    assert_eq!(rt; status, 0);
-    assert!(rt; had_memory(status));
-    let Some(store) = store else {
-        return None;
-    };
+    let kept = serve_new(rt, alloc, 8, workers.as_mut_slice(), &OpenGate)?;
+    let Kept { store, passes } = kept;
     find_all(rt, alloc, &store, passes, found)
 }
 

@@ -1,10 +1,12 @@
 //! One stream: what is written, how it ends, and that cuts change nothing.
 ghost use Rattle.std.specs.Prelude.{◌≤◌, IfOk};
+ghost use Rattle.state_store.specs.Passes.{IsPassOf};
 
 use crate::memory::{BAD, DONE, LAST_COOKIE, MISSING, clock, joined, keepers, sink, source};
-use asp_base::{Bytes, OpenGate};
-use asp_messages::{Ask, Request};
-use state_store::{FreshStore, Store};
+use crate::serving::read_item;
+use asp_base::{ListClock, MemorySink, MemorySource, OpenGate};
+use keeper::MapKeeper;
+use state_store::{FreshStore, Pass, Store};
 use std::alloc::Global;
 use std::process::Abort;
 use std::rt::Clock as HostTime;
@@ -173,21 +175,51 @@ const CASES: [Case; 14] = [
     },
 ];
 
-/// Serves the case's stream over a new store of 8 shards.
+/// A new store of 8 shards, and its first pass.
+#[derive(Drop)]
+struct Begun {
+    store: Store<MapKeeper>,
+    pass: Pass<MapKeeper>,
+}
+
+fn begin<R>(rt: &R, alloc: Global) -> Result<Begun, Fail>
+    ensures { IfOk result (λ begun. IsPassOf begun.store begun.pass) }
+{
+    let fresh = Store::new(rt, alloc, keepers(alloc, 8)?, 1, LAST_COOKIE, 0)?;
+    let FreshStore { store, mut roll } = fresh;
+    let pass = store.pass(rt, alloc, &mut roll)?;
+    Ok(Begun { store, pass })
+}
+
+/// Serves one stream in memory.
+fn serve_one<R: Wait + HostTime>(
+    rt: &R,
+    alloc: Global,
+    store: &Store<MapKeeper>,
+    pass: &mut Pass<MapKeeper>,
+    input: &mut MemorySource,
+    output: &mut MemorySink,
+    clock: &mut ListClock,
+) -> StreamEnd
+    requires { IsPassOf store.now pass.old }
+    ensures { IsPassOf store.now pass.new }
+{
+    serve_stream(rt, alloc, store, pass, input, output, clock, &OpenGate)
+}
+
+/// Serves the case's stream over a new store.
 fn check<R: Abort + Wait + HostTime>(
     rt: &R,
     alloc: Global,
     at: usize,
     case: &Case,
 ) -> Result<(), Fail> {
-    let fresh = Store::new(rt, alloc, keepers(alloc, 8)?, 1, LAST_COOKIE, 0)?;
-    let FreshStore { store, mut roll } = fresh;
-    let mut pass = store.pass(rt, alloc, &mut roll)?;
     let text = joined(alloc, case.sent)?;
     let mut input = source(alloc, text, case.cut, case.read_fails)?;
     let mut output = sink(alloc, 1_024, case.taken, case.write_fails)?;
     let mut clock = clock(alloc, &[0, 5_000, 1_000])?;
-    let end = serve_stream(
+    let Begun { store, mut pass } = begin(rt, alloc)?;
+    let end = serve_one(
         rt,
         alloc,
         &store,
@@ -195,7 +227,6 @@ fn check<R: Abort + Wait + HostTime>(
         &mut input,
         &mut output,
         &mut clock,
-        &OpenGate,
     );
     assert_eq!(rt; end, case.end, "case {at}");
     let mut written = joined(alloc, case.written)?;
@@ -207,14 +238,7 @@ fn check<R: Abort + Wait + HostTime>(
         str::from_utf8(written.as_slice()),
         "case {at}"
     );
-    let Ok(key) = Bytes::copy(alloc, b"/a") else {
-        return Err("no memory".into());
-    };
-    let next = Request {
-        key,
-        ask: Ask::Read,
-    };
-    let answer = store.ask(rt, &mut pass, next, 5_000, &OpenGate);
+    let answer = read_item(rt, alloc, &store, &mut pass, b'a', 5_000).ok_or("no memory")?;
     assert_eq!(rt; answer.place, Some(case.entries), "case {at}");
     Ok(())
 }
@@ -230,14 +254,16 @@ fn each_stream_is_answered_and_comes_to_its_end(rt: HostRuntime) -> Result<(), F
 /// A body that is longer than a read and than a text that is written at once.
 const BODY: usize = 20_000;
 
-/// A stream of five messages with long content, in such pieces.
-fn check_cut<R: Abort + Wait + HostTime>(rt: &R, alloc: Global, piece: u64) -> Result<(), Fail> {
-    let fresh = Store::new(rt, alloc, keepers(alloc, 8)?, 1, LAST_COOKIE, 0)?;
-    let FreshStore { store, mut roll } = fresh;
-    let mut pass = store.pass(rt, alloc, &mut roll)?;
+/// Five messages with long content.
+fn long_text(alloc: Global) -> Result<Vec<u8>, Fail> {
     let mut text = joined(alloc, &["PUT /a HTTP/1.1\r\nContent-Length: 20000\r\n\r\n"])?;
     text.resize(text.len().min(100) + BODY, b'y')?;
     text.extend_from_slice(joined(alloc, &[READ, RELEASE_OF_NONE, ACQUIRE, TOO_LONG])?.as_slice())?;
+    Ok(text)
+}
+
+/// What is written to those.
+fn long_replies(alloc: Global) -> Result<Vec<u8>, Fail> {
     let head = "HTTP/1.1 200 OK\r\nTimeout: 20\r\nContent-Length: 20000\r\n\r\n";
     let mut want = joined(alloc, &[DONE, head])?;
     want.resize(want.len().min(200) + BODY, b'y')?;
@@ -245,10 +271,16 @@ fn check_cut<R: Abort + Wait + HostTime>(rt: &R, alloc: Global, piece: u64) -> R
     want.extend_from_slice(joined(alloc, &[BAD, head])?.as_slice())?;
     want.resize(want.len().min(100_000) + BODY, b'y')?;
     want.extend_from_slice(BAD.as_bytes())?;
-    let mut input = source(alloc, text, piece, &[])?;
+    Ok(want)
+}
+
+/// A stream of five messages with long content, in such pieces.
+fn check_cut<R: Abort + Wait + HostTime>(rt: &R, alloc: Global, piece: u64) -> Result<(), Fail> {
+    let mut input = source(alloc, long_text(alloc)?, piece, &[])?;
     let mut output = sink(alloc, 65_536, piece, &[])?;
     let mut clock = clock(alloc, &[])?;
-    let end = serve_stream(
+    let Begun { store, mut pass } = begin(rt, alloc)?;
+    let end = serve_one(
         rt,
         alloc,
         &store,
@@ -256,8 +288,8 @@ fn check_cut<R: Abort + Wait + HostTime>(rt: &R, alloc: Global, piece: u64) -> R
         &mut input,
         &mut output,
         &mut clock,
-        &OpenGate,
     );
+    let want = long_replies(alloc)?;
     assert_eq!(rt; end, StreamEnd::Broken, "at {piece}");
     assert!(rt; output.taken() == want.as_slice(), "at {piece}");
     Ok(())

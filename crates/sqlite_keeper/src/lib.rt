@@ -6,6 +6,3 @@ mod sqlite_keeper;
 mod statements;
 
 pub use sqlite_keeper::SqliteKeeper;
-
-#[cfg(test)]
-mod tests;

@@ -18,6 +18,3 @@ pub use sharding::shard_of;
 pub use store::{FreshStore, Store};
 pub use sweep::{SweepCount, SweepEnd};
 pub use turn::Answer;
-
-#[cfg(test)]
-mod tests;

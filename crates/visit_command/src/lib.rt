@@ -7,6 +7,3 @@ mod words;
 
 pub use visiting::visit;
 pub use words::{PageWords, read_visit, visit_port};
-
-#[cfg(test)]
-mod tests;

@@ -14,6 +14,3 @@ pub use laws::releases_only_an_old_lock;
 pub use outcome::{Outcome, OutcomeText, outcome_text};
 pub use terms::{Limits, MOST_EXECUTION_SECS, MOST_POLL_MS, MOST_POLLS, Need, limits_fit};
 pub use visit::Visit;
-
-#[cfg(test)]
-mod tests;

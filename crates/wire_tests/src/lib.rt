@@ -1,5 +1,5 @@
-//! Both ends of the wire together: what one writes the other reads, in pieces of any size. The
-//! crate has tests alone.
+//! Both ends of the wire together: what one writes the other reads, in pieces of any size; and the
+//! texts of messages. The crate has tests alone.
 #![tactic(auto)]
 
 #[cfg(test)]
@@ -10,5 +10,7 @@ mod largest;
 mod replies;
 #[cfg(test)]
 mod requests;
+#[cfg(test)]
+mod spellings;
 #[cfg(test)]
 mod tests;

@@ -1,3 +1,4 @@
+//! Requests and replies are read as they were written, and what is no message is refused.
 use crate::replies::replies_of;
 use crate::requests::requests_of;
 use asp_base::{Bytes, NoMemory};

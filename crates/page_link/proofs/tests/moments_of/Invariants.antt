@@ -1,6 +1,0 @@
-use Rattle.std.proofs.Common.{◌≤◌, ◌^◌}
-use Rattle.std.specs.Prelude.{All}
-use Rattle.page_link.proofs.tests.moments_of.Given as goal
-
-abbrev pub invariant-loop-moment : goal.invariant-loop-moment
-invariant-loop-moment l = All (λ m. m ≤ 2 ^ 62) l.all.items

@@ -1,0 +1,95 @@
+//! Rows that are no key or no item in range, and tables of another form.
+use crate::keepers::{in_memory, key};
+use keeper::{KeepError, Keeper};
+use sqlite::{Connection, MemStore, params};
+use sqlite_keeper::SqliteKeeper;
+use std::alloc::Global;
+use std::test::Fail;
+
+/// A keeper over one row of these values, where `?1` are so many bytes of 0.
+fn over_row(alloc: Global, values: &str, zeros: usize) -> Result<SqliteKeeper<MemStore>, Fail> {
+    let mut connection = in_memory(alloc)?.into_connection();
+    let mut text = String::new(alloc);
+    text.push_str("INSERT INTO items VALUES (")?;
+    text.push_str(values)?;
+    text.push_str(")")?;
+    let mut bytes: Vec<u8> = Vec::new(alloc);
+    bytes.resize(zeros, 0)?;
+    if zeros > 0 {
+        connection.execute(text.as_str(), params![&bytes])?;
+    } else {
+        connection.execute(text.as_str(), &[])?;
+    }
+    Ok(SqliteKeeper::over(alloc, connection)?)
+}
+
+/// Whether the item of `/a` is a counted fault.
+fn is_no_item(alloc: Global, values: &str, zeros: usize) -> Result<bool, Fail> {
+    let mut keeper = over_row(alloc, values, zeros)?;
+    let found = keeper.get(&key(alloc, b'a')?);
+    Ok(found == Err(KeepError::Fault) && keeper.faults() == 1)
+}
+
+/// Whether the key that is due is a counted fault.
+fn is_no_key(alloc: Global, values: &str, zeros: usize) -> Result<bool, Fail> {
+    let mut keeper = over_row(alloc, values, zeros)?;
+    let found = keeper.due(60_000);
+    Ok(found == Err(KeepError::Fault) && keeper.faults() == 1)
+}
+
+/// The rows have the columns `key`, `body`, `minutes`, `fresh`, `cookie`, `since`, `touched` and
+/// `expiry`.
+#[test]
+fn rows_out_of_range_are_counted_faults(rt: HostRuntime) -> Result<(), Fail> {
+    let alloc = rt.alloc();
+    for values in [
+        // Minutes out of range.
+        "x'2f61', x'78', 0, 0, 0, 0, 0, 0",
+        "x'2f61', x'78', 525601, 0, 0, 0, 0, 31536060000",
+        // A flag that is unknown.
+        "x'2f61', x'78', 1, 2, 0, 0, 0, 60000",
+        // A lock with no cookie, with one below 0, and with no moment.
+        "x'2f61', x'78', 1, 0, 0, 1, 0, 60000",
+        "x'2f61', x'78', 1, 0, -1, 0, 0, 60000",
+        "x'2f61', x'78', 1, 0, 1, 'none', 0, 60000",
+        "x'2f61', x'78', 1, 0, 1, 4611686018427387905, 0, 60000",
+        // A wrong expiry.
+        "x'2f61', x'78', 1, 0, 0, 0, 0, 60001",
+        // A text for a body.
+        "x'2f61', 'x', 1, 0, 0, 0, 0, 60000",
+        // A touch past the last moment.
+        "x'2f61', x'78', 1, 0, 0, 0, 4611686018427387905, 4611686018427447905",
+    ] {
+        assert!(rt; is_no_item(alloc, values, 0)?, "at {values}");
+    }
+    for values in [
+        "x'', x'78', 1, 0, 0, 0, 0, 60000",
+        "NULL, x'78', 1, 0, 0, 0, 0, 60000",
+        "'/a', x'78', 1, 0, 0, 0, 0, 60000",
+    ] {
+        assert!(rt; is_no_key(alloc, values, 0)?, "at {values}");
+    }
+    // Content of 4,194,305 bytes, and a key of 1,025.
+    assert!(rt; is_no_item(alloc, "x'2f61', ?1, 1, 0, 0, 0, 0, 60000", 4_194_305)?);
+    assert!(rt; is_no_key(alloc, "?1, x'78', 1, 0, 0, 0, 0, 60000", 1025)?);
+    // No bytes are content, and a lock may be held since moment 0.
+    let mut keeper = over_row(alloc, "x'2f61', x'', 1, 0, 1, 0, 0, 60000", 0)?;
+    assert!(rt; keeper.get(&key(alloc, b'a')?)?.is_some());
+    Ok(())
+}
+
+#[test]
+fn tables_of_another_form_are_refused(rt: HostRuntime) -> Result<(), Fail> {
+    for text in [
+        "CREATE TABLE items (key BLOB PRIMARY KEY)",
+        "CREATE TABLE items (key BLOB, body BLOB, minutes INTEGER, fresh INTEGER, \
+            cookie INTEGER, since INTEGER, touched INTEGER, expiry INTEGER)",
+        "CREATE VIEW items AS SELECT 1 AS key, 2 AS expiry",
+    ] {
+        let mut connection = Connection::open_in_memory(rt.alloc())?;
+        connection.execute(text, &[])?;
+        let refused = SqliteKeeper::over(rt.alloc(), connection);
+        assert!(rt; matches!(refused, Err(KeepError::Fault)), "at {text}");
+    }
+    Ok(())
+}

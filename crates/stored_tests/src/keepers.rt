@@ -1,0 +1,22 @@
+//! What the tests of a keeper over a database share. They show what no clause says: that the
+//! statements are those that are meant, which rows are refused, and that a shard runs over it.
+ghost use Rattle.std.specs.Prelude.{IfOk};
+ghost use Rattle.asp_messages.specs.Ranges.{KeyFits};
+
+use asp_base::{Bytes, NoMemory};
+use sqlite::{Connection, MemStore};
+use sqlite_keeper::SqliteKeeper;
+use std::alloc::Global;
+use std::test::Fail;
+
+/// The key of a slash and this letter.
+pub(crate) fn key(alloc: Global, letter: u8) -> Result<Bytes, NoMemory>
+    ensures { IfOk result KeyFits }
+{
+    Bytes::copy(alloc, &[b'/', letter])
+}
+
+/// A keeper over an empty database in memory.
+pub(crate) fn in_memory(alloc: Global) -> Result<SqliteKeeper<MemStore>, Fail> {
+    Ok(SqliteKeeper::over(alloc, Connection::open_in_memory(alloc)?)?)
+}

@@ -1,0 +1,10 @@
+//! Visits: by themselves, over a link in memory, and by the words of a command line. The crate has
+//! tests alone.
+#![tactic(auto)]
+
+#[cfg(test)]
+mod commands;
+#[cfg(test)]
+mod links;
+#[cfg(test)]
+mod pages;
