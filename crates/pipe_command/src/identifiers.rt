@@ -6,7 +6,7 @@ ghost use Rattle.pipe_command.specs.Commands.{WritesLine};
 
 use asp_base::{Failed, Sink};
 use session_id::Id;
-use stream_run::write_text;
+use stream_run::{Text, write_text};
 
 /// Writes the identifier of 15 bytes and a line feed, and answers a status: 0, or 5 where the sink
 /// failed. It takes no memory.
@@ -16,7 +16,7 @@ pub fn write_id<T: Sink>(random: [u8; 15], sink: &mut T) -> u8
     ensures fault { result ≡ 5 → Rose (T.faults sink.old) (T.faults sink.new) }
 {
     let text = Id::from_random(random).text();
-    match write_text(sink, &text, b"\n") {
+    match write_text(sink, &mut Text::new(), &text, b"\n") {
         Ok(()) => 0,
         Err(Failed) => 5,
     }

@@ -12,4 +12,4 @@ mod writing;
 pub use consumer::{Consumer, MOST_PIECE, Step};
 pub use ending::{End, Status};
 pub use main_loop::run;
-pub use writing::write_text;
+pub use writing::{Text, write_text};

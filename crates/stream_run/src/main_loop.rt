@@ -6,7 +6,8 @@ ghost use Rattle.stream_run.specs.Flow.{flow};
 
 use crate::pieces::{Piece, take_piece};
 use crate::steps::{close, work_off};
-use crate::{Consumer, End};
+use crate::writing::Text;
+use crate::{Consumer, End, MOST_PIECE};
 use asp_base::{Sink, Source};
 
 fn run_pieces<C: Consumer, S: Source, T: Sink>(
@@ -23,17 +24,19 @@ fn run_pieces<C: Consumer, S: Source, T: Sink>(
     ensures read { result ≡ End.ReadFault → Rose (S.faults source.old) (S.faults source.new) }
     ensures write { result ≡ End.WriteFault → Rose (T.faults sink.old) (T.faults sink.new) }
 {
+    let mut buf = [0u8; MOST_PIECE];
+    let mut text = Text::new();
     let mut left = most;
     'pieces: loop {
-        if let Some(end) = work_off(consumer, left > 0, sink) {
+        if let Some(end) = work_off(consumer, left > 0, sink, &mut text) {
             return end;
         }
         if left == 0 {
             return End::Long;
         }
-        match take_piece(consumer, source, left) {
+        match take_piece(consumer, source, &mut buf, left) {
             Piece::Fed(count) => left -= count,
-            Piece::End => return close(consumer, sink),
+            Piece::End => return close(consumer, sink, &mut text),
             Piece::ReadFault => return End::ReadFault,
             Piece::NoMemory => return End::NoMemory,
         }

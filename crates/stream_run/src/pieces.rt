@@ -28,14 +28,21 @@ fn read_front<S: Source>(source: &mut S, buf: &mut [u8], most: u64) -> Result<us
     ensures reads { Reads (S.told source.old) (S.told source.new) result buf.new }
     ensures count { IfOk result (λ n. n ≤ most) }
     ensures cause { HasCause (S.faults source.old) (S.faults source.new) result }
+    ensures room { length buf.new ≡ length buf.old }
 {
     let room = most.min(buf.len() as u64) as usize;
     source.read(&mut buf[..room])
 }
 
-/// Reads at most `most` bytes, and feeds them to the consumer.
-pub fn take_piece<C: Consumer, S: Source>(consumer: &mut C, source: &mut S, most: u64) -> Piece
+/// Reads at most `most` bytes into the buffer, and feeds them to the consumer.
+pub fn take_piece<C: Consumer, S: Source>(
+    consumer: &mut C,
+    source: &mut S,
+    buf: &mut [u8],
+    most: u64,
+) -> Piece
     requires some { 0 < most }
+    requires buf { length buf.old ≡ MOST_PIECE }
     requires waits { C.waits true consumer.old }
     requires short { IsShort C.went consumer.old most }
     ensures fed { IfFed result (λ n. (0 < n) × (n ≤ most) × ((piece : List ℕ) × (length piece ≡ n)
@@ -51,9 +58,9 @@ pub fn take_piece<C: Consumer, S: Source>(consumer: &mut C, source: &mut S, most
     ensures fault { result ≡ Piece.ReadFault → Gives (S.told source.old) (S.told source.new) []
         × Rose (S.faults source.old) (S.faults source.new) × (consumer.new ≡ consumer.old) }
     ensures faults { S.faults source.old ≤ S.faults source.new }
+    ensures room { length buf.new ≡ length buf.old }
 {
-    let mut buf = [0u8; MOST_PIECE];
-    let count = match read_front(source, &mut buf, most) {
+    let count = match read_front(source, buf, most) {
         Ok(count) => count,
         Err(Failed) => return Piece::ReadFault,
     };

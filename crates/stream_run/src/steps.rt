@@ -5,16 +5,18 @@ ghost use Rattle.asp_base.specs.Outside.{Takes};
 ghost use Rattle.stream_run.specs.Feeding.{Follows, IsShort};
 ghost use Rattle.stream_run.specs.Ending.{StopsAs};
 
-use crate::writing::write_given;
+use crate::writing::{Text, write_given};
 use crate::{Consumer, End, Step};
 use asp_base::{Failed, NoMemory, Sink};
 
-/// Lets the consumer do what it can, and writes what each thing gives before the next. `None` where
+/// Lets the consumer do what it can, and writes what each thing gives before the next, with `text`
+/// as the room for what goes out in one call. `None` where
 /// more bytes are wanted, else how the run ends.
 pub fn work_off<C: Consumer, T: Sink>(
     consumer: &mut C,
     more: bool,
     sink: &mut T,
+    text: &mut Text,
 ) -> Option<End<C::Over>>
     requires short { IsShort C.went consumer.old 0 }
     ensures goes { result ≡ None → (given : List ℕ)
@@ -33,13 +35,13 @@ pub fn work_off<C: Consumer, T: Sink>(
 {
     'steps: loop {
         match consumer.step(more) {
-            Step::Did => match write_given(consumer, sink) {
+            Step::Did => match write_given(consumer, sink, text) {
                 Ok(()) => {}
                 Err(Failed) => return Some(End::WriteFault),
             },
             Step::More => return None,
             Step::Over(over) => {
-                return match write_given(consumer, sink) {
+                return match write_given(consumer, sink, text) {
                     Ok(()) => Some(End::Over(over)),
                     Err(Failed) => Some(End::WriteFault),
                 };
@@ -50,7 +52,7 @@ pub fn work_off<C: Consumer, T: Sink>(
 }
 
 /// Lets the consumer end where the input has ended, and writes what that gives.
-pub fn close<C: Consumer, T: Sink>(consumer: &mut C, sink: &mut T) -> End<C::Over>
+pub fn close<C: Consumer, T: Sink>(consumer: &mut C, sink: &mut T, text: &mut Text) -> End<C::Over>
     requires waits { C.waits true consumer.old }
     ensures ends { (start : Option (List ℕ)) → Follows C.went consumer.old
         (λ first taken due. Takes start (T.taken sink.old) due
@@ -61,7 +63,7 @@ pub fn close<C: Consumer, T: Sink>(consumer: &mut C, sink: &mut T) -> End<C::Ove
     ensures write { result ≡ End.WriteFault → Rose (T.faults sink.old) (T.faults sink.new) }
 {
     match consumer.finish() {
-        Ok(over) => match write_given(consumer, sink) {
+        Ok(over) => match write_given(consumer, sink, text) {
             Ok(()) => End::Over(over),
             Err(Failed) => End::WriteFault,
         },

@@ -10,7 +10,7 @@ ghost use Rattle.stream_server.specs.Callers.{caller_with};
 ghost use Rattle.stream_server.specs.Progress.{IfFit, AnswersOne, AnswersHeld};
 ghost use Rattle.stream_server.specs.Streams.{IsBadIfUnfit, LeavesIn, asked_for};
 
-use crate::writing::{Text, write_text};
+use arrayvec::ArrayVec;
 use asp_base::{Clock, Failed, Gate, Sink};
 use asp_messages::{Message, Reply, reply_body};
 use keeper::Keeper;
@@ -18,6 +18,11 @@ use state_store::{Pass, Store};
 use std::rt::Clock as HostTime;
 use std::sync::Wait;
 use stream_core::{Next, Stream};
+use stream_run::write_text;
+
+/// Room for a head and a body that are written in one call, which a connection keeps: as much as a
+/// reply with a body of 16,384 bytes has.
+pub(crate) type Text = ArrayVec<u8, 16_640>;
 
 /// Why no more messages are answered.
 #[derive(Clone, Copy, Debug, PartialEq, Eq)]

@@ -13,7 +13,6 @@ mod serving;
 mod stream;
 mod tcp_door;
 mod worker;
-mod writing;
 
 pub use door::{Conn, Door, StreamEnd};
 pub use memory_door::{GivenBack, MemoryDoor};

@@ -7,9 +7,8 @@ ghost use Rattle.stream_server.specs.Progress.{EndsBadly};
 ghost use Rattle.stream_server.specs.Streams.{IsStream};
 
 use crate::StreamEnd;
-use crate::answering::{Stop, answer_held};
+use crate::answering::{Stop, Text, answer_held};
 use crate::reading::{MOST_READ, Piece, take_piece};
-use crate::writing::{Text, write_text};
 use asp_base::{Clock, Failed, Gate, Sink, Source};
 use asp_messages::{Reply, reply_body, reply_head};
 use keeper::Keeper;
@@ -18,6 +17,7 @@ use std::alloc::Global;
 use std::rt::Clock as HostTime;
 use std::sync::Wait;
 use stream_core::Stream;
+use stream_run::write_text;
 
 /// The most bytes that are taken from a connection.
 const MOST_INPUT: u64 = 1 << 40;

@@ -1,4 +1,4 @@
-use Rattle.std.proofs.Common.{◌≡◌, ℕ, ◌<◌, Some, true, arith, refl, subst, sym, ap}
+use Rattle.std.proofs.Common.{◌<◌, Some, true, arith, refl, subst, sym, ap}
 use Rattle.std.proofs.lemmas.Bool.{lt-ltb, le-ltb}
 use Rattle.stream_run.specs.Flow.{flow}
 use Rattle.stream_run.specs.Running.{Running}
