@@ -1,4 +1,4 @@
-//! A stream of requests, each answered before the next is taken.
+//! A stream of requests, and the heads of the replies to them.
 ghost use Rattle.std.specs.Prelude.{◌⊎◌, ◌≡◌, ◌≤◌, ◌↔◌, length, IsTrue, IsFalse, IsNone, IfSome, OnOk, OnErr, true, false};
 ghost use Rattle.asp_messages.specs.declared.reply.Reply.TheVariants.{Bad};
 ghost use Rattle.asp_messages.specs.Fields.{request_fields};
@@ -17,7 +17,7 @@ use request_reader::{Next, RequestReader};
 use std::alloc::Global;
 use std::marker::Model;
 
-/// A stream of requests, each answered before the next is taken.
+/// A stream of requests, and whether the message that was taken last is due an answer.
 #[derive(Debug, Drop)]
 pub struct Stream {
     reader: RequestReader,
