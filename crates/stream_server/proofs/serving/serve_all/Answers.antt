@@ -4,7 +4,7 @@ use Rattle.std.proofs.lemmas.List.{take_at}
 use Rattle.state_store.specs.Passes.{IsPassOf, passes_of}
 use Rattle.stream_server.specs.Passes.{IsFinished}
 use Rattle.stream_server.specs.Serving.{IsServed}
-use Rattle.stream_server.proofs.ServingLemmas.{all_served, passes_are}
+use Rattle.stream_server.proofs.ServingLemmas.{all_served, passes_are, untouched-cleared}
 use Rattle.stream_server.proofs.serving.serve_all.Goals as goal
 use Rattle.stream_server.proofs.serving.serve_all.Goals.{then-has_failed, else-has_failed}
 
@@ -46,6 +46,16 @@ returns-clause-served g c = λ _.
           (long ∙ ap length c.deref_mut.ensures.value)
           (subst (λ l. IsFinished store (passes_of c.give_passes.new.roll) l c.finish.new.passes)
           c.deref_mut.ensures.value c.finish.ensures.finished)),
+    )
+
+pub returns-in_default-give_passes-clause-no_memory :
+    goal.returns-in_default-give_passes-clause-no_memory
+returns-in_default-give_passes-clause-no_memory g c = λ _.
+    let refused = c.refused-in_default-give_passes.ensures in
+    let given = c.give_passes.ensures.so_far in (
+      refused.store,
+      refused.passes,
+      untouched-cleared c.in-Ok-new.fresh.store given.0 _ _ _ given.1 c.clear.ensures,
     )
 
 pub returns-clause-none_failed : goal.returns-clause-none_failed
