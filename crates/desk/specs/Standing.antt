@@ -5,6 +5,7 @@ use Rattle.cookie_source.specs.Counting.{Counter, counter_after}
 use Rattle.session_machine.specs.declared.entry.Entry.{Entry}
 use Rattle.session_machine.specs.declared.item.Item.{Item}
 use Rattle.session_machine.specs.History.{IsHeldBelow}
+use Rattle.keeper.specs.declared.keeping.Keeper.{Ghosts}
 use Rattle.shard_core.specs.Standing.{StandsFor}
 use Rattle.desk.specs.Draws.{draws_in}
 
@@ -19,12 +20,11 @@ pub record DeskState : Type 0 where
   pub faults : ℕ
   pub cookies : Counter
 
--- the state of a desk, whose keeper tells and counts so
-abbrev pub state_of : {K : Type 0} → (K → Option (List ℕ → Option Item)) → (K → ℕ) → DeskOf K
-    → DeskState
-state_of told count desk = record {
-  told = told desk.keeper;
-  faults = count desk.keeper;
+-- what contracts see of a desk, over a keeper of the type
+abbrev pub state_of : {K : Type 0} → Ghosts K → DeskOf K → DeskState
+state_of G desk = record {
+  told = G.told desk.keeper;
+  faults = G.count desk.keeper;
   cookies = desk.cookies;
 }
 
@@ -39,3 +39,9 @@ pub record DeskStandsFor (CanCount : ℕ → Type 0) (first : ℕ) (opening : Li
   pub some : first ≤ desk.cookies.last
   pub drawn : AllByRecursion (λ e. e.drawn < desk.cookies.next) list
   pub held : (key : List ℕ) → IsHeldBelow desk.cookies.next (opening key)
+
+-- a desk over a keeper of the type stands for the history
+abbrev pub HasHistory : {K : Type 0} → Ghosts K → ℕ → (List ℕ → Option Item) → ℕ → List Entry
+    → DeskOf K → Type 0
+HasHistory G first opening count list desk =
+    DeskStandsFor G.can_count first opening count list (state_of G desk)

@@ -1,16 +1,14 @@
 //! A desk, and its calls.
 ghost use Rattle.std.specs.Prelude.{◌≡◌, ◌≤◌, ◌<◌, ◌++◌, ◌∷◌, [], ◌^◌, ℕ, List, Option};
-ghost use Rattle.asp_base.specs.Causes.{Rose};
 ghost use Rattle.asp_messages.specs.Ranges.{RequestFits, ReplyFits};
 ghost use Rattle.session_machine.specs.declared.entry.Entry.{Entry};
 ghost use Rattle.session_machine.specs.declared.item.Item.{Item};
 ghost use Rattle.session_machine.specs.History.{DrawFits, HasPlace};
 ghost use Rattle.cookie_source.specs.Counting.{Counter};
-ghost use Rattle.keeper.specs.Due.{TellsDue};
-ghost use Rattle.shard_core.specs.Standing.{asked_entry};
-ghost use Rattle.shard_core.specs.Sweeping.{swept_entry};
+ghost use Rattle.shard_core.specs.Standing.{CountsFault, NoFewerFaults, asked_entry};
+ghost use Rattle.shard_core.specs.Sweeping.{HasDue, swept_entry};
 ghost use Rattle.desk.specs.Draws.{CookiesFit, DrawsNext, draw_of, draws_in};
-ghost use Rattle.desk.specs.Standing.{DeskStandsFor, state_of};
+ghost use Rattle.desk.specs.Standing.{HasHistory};
 
 use asp_messages::{Ask, Reply, Request};
 use cookie_source::PlainCookies;
@@ -89,17 +87,16 @@ impl<K: Keeper> Desk<K> {
         // stands for, and its cookie is the next by counting.
         ensures stands { (first caller : ℕ) (opening : List ℕ → Option Item) (count : ℕ)
             (list : List Entry) → caller < 2 ^ 63
-            → DeskStandsFor K.can_count first opening count list
-            (state_of K.told K.count self.old)
+            → HasHistory ⟦<K as Keeper>⟧ first opening count list self.old
             → (result.drawn ≡ draw_of first self.old.cookies.last (draws_in list) request.ask)
-            × DeskStandsFor K.can_count first opening count
+            × HasHistory ⟦<K as Keeper>⟧ first opening count
             (list ++ asked_entry caller t request result.drawn result.reply
-            (K.count self.new.keeper) ∷ []) (state_of K.told K.count self.new) }
+            (K.count self.new.keeper) ∷ []) self.new }
 
         ensures last { self.new.cookies.last ≡ self.old.cookies.last }
         ensures fault { result.reply ≡ Reply.KeeperFault
-            → Rose (K.count self.old.keeper) (K.count self.new.keeper) }
-        ensures count { K.count self.old.keeper ≤ K.count self.new.keeper }
+            → CountsFault ⟦<K as Keeper>⟧ self.old.keeper self.new.keeper }
+        ensures count { NoFewerFaults ⟦<K as Keeper>⟧ self.old.keeper self.new.keeper }
         ensures floor { K.floor self.new.keeper ≡ K.floor self.old.keeper }
     {
         let drawn = draw_for(&mut self.cookies, &request.ask);
@@ -116,17 +113,16 @@ impl<K: Keeper> Desk<K> {
         // stands for.
         ensures stands { (first caller : ℕ) (opening : List ℕ → Option Item) (count : ℕ)
             (list : List Entry) → caller < 2 ^ 63
-            → DeskStandsFor K.can_count first opening count list
-            (state_of K.told K.count self.old)
-            → DeskStandsFor K.can_count first opening count
-            (list ++ swept_entry caller t result (K.count self.new.keeper) ∷ [])
-            (state_of K.told K.count self.new) }
+            → HasHistory ⟦<K as Keeper>⟧ first opening count list self.old
+            → HasHistory ⟦<K as Keeper>⟧ first opening count
+            (list ++ swept_entry caller t result (K.count self.new.keeper) ∷ []) self.new }
 
-        ensures nothing { result ≡ Swept.Nothing → TellsDue (K.told self.new.keeper) t Option.None }
+        ensures nothing { result ≡ Swept.Nothing
+            → HasDue ⟦<K as Keeper>⟧ self.new.keeper t Option.None }
         ensures cookies { self.new.cookies ≡ self.old.cookies }
         ensures fault { result ≡ Swept.KeeperFault
-            → Rose (K.count self.old.keeper) (K.count self.new.keeper) }
-        ensures count { K.count self.old.keeper ≤ K.count self.new.keeper }
+            → CountsFault ⟦<K as Keeper>⟧ self.old.keeper self.new.keeper }
+        ensures count { NoFewerFaults ⟦<K as Keeper>⟧ self.old.keeper self.new.keeper }
         ensures floor { K.floor self.new.keeper ≡ K.floor self.old.keeper }
     {
         self.shard.sweep_one(t)

@@ -5,6 +5,8 @@ use Rattle.asp_base.specs.Moments.{last_moment}
 use Rattle.asp_base.specs.Outside.{Takes, TakesFront}
 use Rattle.asp_messages.specs.declared.reply.Reply.TheVariants.{Done}
 use Rattle.asp_messages.specs.ReplyText.{status_number}
+use Rattle.keeper.specs.declared.keeping.Keeper.{Ghosts}
+use Rattle.keeper.specs.declared.ran.Ran.{Ran}
 use Rattle.keeper.specs.Due.{TellsDue}
 use Rattle.session_machine.specs.declared.entry.Entry.{Entry}
 use Rattle.session_machine.specs.declared.entry.Deed.{Deed}
@@ -103,3 +105,14 @@ pub record IsLoad (CanCount : ℕ → Type 0) (load : Load) (sink : Option (List
   pub counts : AllByRecursion (λ e. CanCount e.faults) (requests ++ removals ++ looks)
   pub ends : EndsLoad load.requests sink end
       (record { requests = requests; removals = removals; looks = looks })
+
+-- the same of a load that ran over a keeper of the type (its sink has taken so much before, and so
+-- much after)
+abbrev pub RanLoad : {K : Type 0} → Ghosts K → Load → Option (List ℕ) → Option (List ℕ) → Ran K
+    → Type 0
+RanLoad G load sink sink' ran = IsLoad G.can_count load sink (record {
+  status = ran.status;
+  sink = sink';
+  told = G.told ran.keeper;
+  faults = G.count ran.keeper;
+})

@@ -1,7 +1,8 @@
 -- A load under way.
 use Rattle.std.specs.Prelude.{◌≡◌, ◌⊎◌, ℕ, ◌+◌, ◌≤◌, List, [], ◌++◌, length, Option}
 use Rattle.std.specs.List.{AllByRecursion}
-use Rattle.desk.specs.Standing.{DeskState, DeskStandsFor}
+use Rattle.keeper.specs.declared.keeping.Keeper.{Ghosts}
+use Rattle.desk.specs.Standing.{DeskOf, DeskState, DeskStandsFor, state_of}
 use Rattle.session_machine.specs.declared.entry.Entry.{Entry}
 use Rattle.session_machine.specs.History.{nothing}
 use Rattle.load_generator.specs.Load.{AreMade, seeded}
@@ -12,6 +13,10 @@ pub record HasAsked (CanCount : ℕ → Type 0) (seed : ℕ) (requests : List En
     : Type 0 where
   pub made : AreMade (seeded seed) 0 requests
   pub desk : DeskStandsFor CanCount 1 nothing 0 requests state
+
+-- the same of a desk over a keeper of the type
+abbrev pub DeskHasAsked : {K : Type 0} → Ghosts K → ℕ → List Entry → DeskOf K → Type 0
+DeskHasAsked G seed requests desk = HasAsked G.can_count seed requests (state_of G desk)
 
 -- So many items were removed behind a history, and then a look removed none, or all the looks that
 -- may be made removed one.
@@ -24,6 +29,11 @@ pub record Sweeps (CanCount : ℕ → Type 0) (first most : ℕ) (list : List En
   pub few : length removals + length looks ≤ most
   pub desk : DeskStandsFor CanCount first nothing 0 (list ++ removals ++ looks) state
   pub ends : ((looks ≡ []) × (removed ≡ most)) ⊎ EndsSweep state.told looks
+
+-- the same of a desk over a keeper of the type
+abbrev pub DeskSweeps : {K : Type 0} → Ghosts K → ℕ → ℕ → List Entry → DeskOf K → ℕ → Type 0
+DeskSweeps G first most list desk removed =
+    Sweeps G.can_count first most list (state_of G desk) removed
 
 -- so many items were removed behind a history
 pub record Removes (CanCount : ℕ → Type 0) (first : ℕ) (list : List Entry) (state : DeskState)

@@ -3,13 +3,12 @@ ghost use Rattle.std.specs.Prelude.{◌≡◌, ◌⊎◌, ◌<◌, ◌≤◌, �
 ghost use Rattle.asp_base.specs.Causes.{Rose};
 ghost use Rattle.asp_base.specs.Outside.{Takes, TakesFront};
 ghost use Rattle.asp_messages.specs.Fields.{most_cookie};
-ghost use Rattle.desk.specs.Standing.{DeskStandsFor, state_of};
 ghost use Rattle.keeper.specs.Items.{IsEmptyTold};
 ghost use Rattle.session_machine.specs.declared.entry.Entry.{Entry};
 ghost use Rattle.session_machine.specs.History.{nothing};
 ghost use Rattle.load_generator.specs.Counting.{CountsAre, counts_text};
-ghost use Rattle.load_generator.specs.Steps.{HasAsked};
-ghost use Rattle.load_generator.specs.Run.{IsLoad};
+ghost use Rattle.load_generator.specs.Steps.{DeskHasAsked};
+ghost use Rattle.load_generator.specs.Run.{RanLoad};
 ghost use Rattle.load_generator.specs.Running.{LoadFits, WritesCounts};
 
 use crate::counts::Counts;
@@ -33,10 +32,10 @@ pub struct Load {
 /// Makes each request of the load and counts its reply.
 fn ask_all<K: Keeper>(alloc: Global, load: Load, desk: &mut Desk<K>) -> Result<Counts, NoMemory>
     requires load { LoadFits load }
-    requires desk { HasAsked K.can_count load.seed [] (state_of K.told K.count desk.old) }
+    requires desk { DeskHasAsked ⟦<K as Keeper>⟧ load.seed [] desk.old }
     requires last { desk.old.cookies.last ≡ most_cookie }
     ensures asked { (list : List Entry)
-        × HasAsked K.can_count load.seed list (state_of K.told K.count desk.new)
+        × DeskHasAsked ⟦<K as Keeper>⟧ load.seed list desk.new
         × IfOk result (λ counts. (length list ≡ load.requests) × CountsAre counts list) }
     ensures floor { K.floor desk.new.keeper ≡ K.floor desk.old.keeper }
 {
@@ -82,12 +81,7 @@ pub fn run_load<T: Sink, K: Keeper>(alloc: Global, load: Load, sink: &mut T, kee
     requires load { LoadFits load }
     requires no_faults { K.count keeper ≡ 0 }
     requires empty { IsEmptyTold (K.told keeper) }
-    ensures load { IsLoad K.can_count load (T.taken sink.old) (record {
-      status = result.status;
-      sink = T.taken sink.new;
-      told = K.told result.keeper;
-      faults = K.count result.keeper;
-    }) }
+    ensures load { RanLoad ⟦<K as Keeper>⟧ load (T.taken sink.old) (T.taken sink.new) result }
     ensures write { result.status ≡ 5 → Rose (T.faults sink.old) (T.faults sink.new) }
     ensures floor { K.floor result.keeper ≡ K.floor keeper }
 {

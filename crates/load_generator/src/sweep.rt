@@ -1,9 +1,9 @@
 //! The sweep at the end of a load.
 ghost use Rattle.std.specs.Prelude.{◌≡◌, ◌<◌, ◌^◌, ℕ, List};
-ghost use Rattle.desk.specs.Standing.{DeskStandsFor, state_of};
+ghost use Rattle.desk.specs.Standing.{HasHistory};
 ghost use Rattle.session_machine.specs.declared.entry.Entry.{Entry};
 ghost use Rattle.session_machine.specs.History.{nothing};
-ghost use Rattle.load_generator.specs.Steps.{Sweeps};
+ghost use Rattle.load_generator.specs.Steps.{DeskSweeps};
 
 use asp_base::LAST_MOMENT;
 use desk::Desk;
@@ -15,8 +15,8 @@ use shard_core::Swept;
 pub fn sweep<K: Keeper>(desk: &mut Desk<K>, most: u64) -> u64
     requires { 0 < desk.old.cookies.next }
     ensures sweeps { (first : ℕ) (list : List Entry)
-        → DeskStandsFor K.can_count first nothing 0 list (state_of K.told K.count desk.old)
-        → Sweeps K.can_count first most list (state_of K.told K.count desk.new) result }
+        → HasHistory ⟦<K as Keeper>⟧ first nothing 0 list desk.old
+        → DeskSweeps ⟦<K as Keeper>⟧ first most list desk.new result }
     ensures floor { K.floor desk.new.keeper ≡ K.floor desk.old.keeper }
 {
     let mut removed = 0;

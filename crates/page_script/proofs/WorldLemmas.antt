@@ -13,7 +13,8 @@ use Rattle.page_script.specs.declared.script.Script.{Script}
 use Rattle.page_script.specs.declared.script_page.ScriptPage.{ScriptPage}
 use Rattle.page_script.specs.Places.{IsUnused}
 use Rattle.page_script.specs.World.{Page, Turn, World, Added, Performs, step_line, with_events, turns_of, new_page, most_pages}
-use Rattle.page_script.specs.Standing.{PageAtDesk, PageStands, PagesStand, Steps, state_of, EachSteps, EachMayStep, Stays, Stands, WorldTakes}
+use Rattle.desk.specs.Standing.{state_of}
+use Rattle.page_script.specs.Standing.{PageAtDesk, PageStands, PagesStand, Steps, EachSteps, EachMayStep, Stays, Stands, WorldTakes}
 use Rattle.page_script.proofs.PlaceLemmas.{All-append, All-more, turns_of-none, PagesStand-length, IsFound, found, PagesStand-push, unused-no_name}
 
 -- a step asks only in its own page's name

@@ -8,7 +8,7 @@ use Rattle.asp_messages.specs.Fields.{most_cookie}
 use Rattle.session_machine.specs.declared.item.Item.{Item}
 use Rattle.session_machine.specs.History.{nothing}
 use Rattle.keeper.specs.declared.keeping.Keeper.{Ghosts}
-use Rattle.desk.specs.Standing.{DeskOf, DeskState, DeskStandsFor, state_of as desk_state}
+use Rattle.desk.specs.Standing.{DeskOf, DeskState, DeskStandsFor, state_of}
 use Rattle.visit_core.specs.Rule.{Event, act_of, has_ended}
 use Rattle.visit_core.specs.Stages.{HasPast}
 use Rattle.page_script.specs.declared.line.Line.{Line}
@@ -18,11 +18,6 @@ use Rattle.page_script.specs.Lines.{IsLine}
 use Rattle.page_script.specs.World.{Page, Turn, World, history, event_of, drawn_for, Performs, with_events, WorldStep, turns_of, is_heard}
 
 -- ---- the desk
-
--- what contracts see of a desk, over a keeper of the type: what the keeper tells, how many faults
--- it has counted, and the cookies that are left
-abbrev pub state_of : {K : Type 0} → Ghosts K → DeskOf K → DeskState
-state_of G desk = desk_state G.told G.count desk
 
 -- The desk stands for the history of the turns, with the cookies from 1 to the last there is.
 -- (CanCount says which counts of faults a keeper of this type can have.)

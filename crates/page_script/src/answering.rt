@@ -2,7 +2,8 @@
 ghost use Rattle.std.specs.Prelude.{◌≡◌, ◌≤◌, ◌^◌, ℕ, List, [], ◌∷◌, ◌++◌};
 ghost use Rattle.asp_messages.specs.Ranges.{RequestFits, ReplyFits};
 ghost use Rattle.page_script.specs.World.{Turn};
-ghost use Rattle.page_script.specs.Standing.{HasTurns, state_of, turn_at};
+ghost use Rattle.desk.specs.Standing.{state_of};
+ghost use Rattle.page_script.specs.Standing.{HasTurns, turn_at};
 
 use asp_messages::{Reply, Request};
 use desk::Desk;

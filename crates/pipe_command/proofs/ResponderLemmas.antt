@@ -135,12 +135,12 @@ module _ {K : Type 0} (G : Ghosts K) (first : Responder K) where
     progress =
         subst (λ d. Progress G.can_count first.pipe bytes due (record {
           held = rest;
-          desk = desk_state G.told G.count d;
+          desk = desk_state G d;
           clock = new.clock;
         })) (sym desk)
         (subst (λ c. Progress G.can_count first.pipe bytes due (record {
           held = rest;
-          desk = desk_state G.told G.count old.desk;
+          desk = desk_state G old.desk;
           clock = c;
         })) (sym clock) has.progress);
   }

@@ -47,7 +47,7 @@ module _ {K : Type 0} (G : Ghosts K) where
   abbrev pub state_of : Responder K → ServerState
   state_of now = record {
     held = now.stream.reader.held;
-    desk = desk_state G.told G.count now.desk;
+    desk = desk_state G now.desk;
     clock = now.clock;
   }
 

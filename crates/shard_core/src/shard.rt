@@ -1,14 +1,12 @@
 //! A shard, and its two calls.
 ghost use Rattle.std.specs.Prelude.{◌≡◌, ◌<◌, ◌≤◌, ◌++◌, ◌∷◌, [], ◌^◌, ℕ, List, Option, Some, None};
-ghost use Rattle.asp_base.specs.Causes.{Rose};
 ghost use Rattle.asp_messages.specs.Ranges.{RequestFits, ReplyFits};
 ghost use Rattle.session_machine.specs.declared.item.Item.{Item};
 ghost use Rattle.session_machine.specs.declared.entry.Entry.{Entry};
-ghost use Rattle.session_machine.specs.History.{DrawFits, HasPlace, IsFreshDraw, has_risen};
-ghost use Rattle.keeper.specs.Due.{TellsDue};
-ghost use Rattle.shard_core.specs.Acting.{TellsStep, IsOutOfCookies};
-ghost use Rattle.shard_core.specs.Standing.{StandsFor, asked_entry};
-ghost use Rattle.shard_core.specs.Sweeping.{TellsRemoved, IfRemoved, IsUnmoved, swept_entry};
+ghost use Rattle.session_machine.specs.History.{DrawFits, HasPlace, IsFreshDraw};
+ghost use Rattle.shard_core.specs.Acting.{KeeperSteps, IsOutOfCookies, circumstances_at};
+ghost use Rattle.shard_core.specs.Standing.{KeeperStandsFor, TellsSame, CountsFault, NoFewerFaults, asked_entry};
+ghost use Rattle.shard_core.specs.Sweeping.{KeeperRemoves, HasDue, IfRemoved, IsUnmoved, swept_entry};
 
 use crate::acting::act_on;
 use crate::sweeping::sweep_on;
@@ -66,11 +64,8 @@ impl<K: Keeper> Shard<K> {
 
         // The session machine takes one step; the reply is in range and has a place, over every
         // keeper.
-        ensures acts { TellsStep (K.told self.old) (K.told self.new) request (record {
-          moment = t;
-          drawn = drawn;
-          rose = has_risen (K.count self.old) (K.count self.new);
-        }) result }
+        ensures acts { KeeperSteps ⟦<K as Keeper>⟧ self.old self.new request
+            (circumstances_at ⟦<K as Keeper>⟧ t drawn self.old self.new) result }
         ensures fits { ReplyFits result }
         ensures place { HasPlace result }
 
@@ -78,16 +73,16 @@ impl<K: Keeper> Shard<K> {
         // it stands for.
         ensures history { (caller : ℕ) (opening : List ℕ → Option Item) (count : ℕ)
             (list : List Entry) → caller < 2 ^ 63
-            → IsFreshDraw opening list drawn →
-            StandsFor opening count list (K.told self.old) (K.count self.old)
-            → StandsFor opening count (list ++ asked_entry caller t request drawn result
-            (K.count self.new) ∷ []) (K.told self.new) (K.count self.new) }
+            → IsFreshDraw opening list drawn
+            → KeeperStandsFor ⟦<K as Keeper>⟧ opening count list self.old
+            → KeeperStandsFor ⟦<K as Keeper>⟧ opening count
+            (list ++ asked_entry caller t request drawn result (K.count self.new) ∷ []) self.new }
 
-        ensures fault { result ≡ Reply.KeeperFault → Rose (K.count self.old) (K.count self.new) }
+        ensures fault { result ≡ Reply.KeeperFault → CountsFault ⟦<K as Keeper>⟧ self.old self.new }
         ensures out { IsOutOfCookies request.ask drawn
             → (result ≡ Reply.CookiesOut) × (self.new ≡ self.old) }
         ensures cookies_out { result ≡ Reply.CookiesOut → IsOutOfCookies request.ask drawn }
-        ensures count { K.count self.old ≤ K.count self.new }
+        ensures count { NoFewerFaults ⟦<K as Keeper>⟧ self.old self.new }
         ensures floor { K.floor self.new ≡ K.floor self.old }
     {
         act_on(self.alloc, &mut self.keeper, request, t, drawn)
@@ -99,20 +94,20 @@ impl<K: Keeper> Shard<K> {
         requires { t ≤ 2 ^ 62 }
 
         // An item was removed, or none had expired, or nothing changed.
-        ensures removed { IfRemoved result (TellsRemoved (K.told self.old) (K.told self.new) t) }
-        ensures nothing { result ≡ Swept.Nothing → TellsDue (K.told self.old) t None }
-        ensures unchanged { IsUnmoved result → K.told self.new ≡ K.told self.old }
+        ensures removed { IfRemoved result (KeeperRemoves ⟦<K as Keeper>⟧ self.old self.new t) }
+        ensures nothing { result ≡ Swept.Nothing → HasDue ⟦<K as Keeper>⟧ self.old t None }
+        ensures unchanged { IsUnmoved result → TellsSame ⟦<K as Keeper>⟧ self.old self.new }
 
         // Behind each history that the keeper stands for, the look's entry makes a history that it
         // stands for.
         ensures history { (caller : ℕ) (opening : List ℕ → Option Item) (count : ℕ)
             (list : List Entry) → caller < 2 ^ 63
-            → StandsFor opening count list (K.told self.old) (K.count self.old)
-            → StandsFor opening count (list ++ swept_entry caller t result (K.count self.new) ∷ [])
-            (K.told self.new) (K.count self.new) }
+            → KeeperStandsFor ⟦<K as Keeper>⟧ opening count list self.old
+            → KeeperStandsFor ⟦<K as Keeper>⟧ opening count
+            (list ++ swept_entry caller t result (K.count self.new) ∷ []) self.new }
 
-        ensures fault { result ≡ Swept.KeeperFault → Rose (K.count self.old) (K.count self.new) }
-        ensures count { K.count self.old ≤ K.count self.new }
+        ensures fault { result ≡ Swept.KeeperFault → CountsFault ⟦<K as Keeper>⟧ self.old self.new }
+        ensures count { NoFewerFaults ⟦<K as Keeper>⟧ self.old self.new }
         ensures floor { K.floor self.new ≡ K.floor self.old }
     {
         sweep_on(&mut self.keeper, t)

@@ -61,10 +61,9 @@ impl<K: Keeper> Stands for Desk<K> {
 impl<K: Keeper> Desk<K> {
     ghost use Rattle.std.specs.Prelude.{All, ◌↔◌, None};
     ghost use Rattle.cookie_source.specs.Source.{drawn_by, word_seen, last_of, first_of};
-    ghost use Rattle.keeper.specs.Due.{TellsDue};
+    ghost use Rattle.shard_core.specs.Sweeping.{HasDue};
     ghost use Rattle.shard_core.specs.Acting.{IsOutOfCookies};
-    ghost use Rattle.state_store.specs.Standing.{DeskStands};
-    ghost use Rattle.state_store.specs.Desks.{drawn_at};
+    ghost use Rattle.state_store.specs.Desks.{HasEntries, drawn_at};
 
     /// A desk over a keeper, with a drawer of the source. It takes no memory.
     pub(crate) fn new(
@@ -122,11 +121,10 @@ impl<K: Keeper> Desk<K> {
         // stands for.
         ensures stands { (first caller : ℕ) (list : List AnEntry)
             → caller < 2 ^ 63 → first + length list < end_of_places
-            → DeskStands K.can_count first list
-            (K.told self.old.shard) (K.count self.old.shard) (drawn_at self.old)
-            → DeskStands K.can_count first
+            → HasEntries ⟦<K as Keeper>⟧ first list self.old
+            → HasEntries ⟦<K as Keeper>⟧ first
             (list ++ asked_entry caller t request result.drawn result.reply result.faults ∷ [])
-            (K.told self.new.shard) (K.count self.new.shard) (drawn_at self.new) }
+            self.new }
     {
         let drawn = self.draw_for(rt, &request.ask);
         let reply = self.shard.act(request, t, drawn);
@@ -146,12 +144,11 @@ impl<K: Keeper> Desk<K> {
         // stands for.
         ensures stands { (first caller : ℕ) (list : List AnEntry)
             → caller < 2 ^ 63 → first + length list < end_of_places
-            → DeskStands K.can_count first list
-            (K.told self.old.shard) (K.count self.old.shard) (drawn_at self.old)
-            → DeskStands K.can_count first
-            (list ++ swept_entry caller t result.found result.faults ∷ [])
-            (K.told self.new.shard) (K.count self.new.shard) (drawn_at self.new) }
-        ensures nothing { result.found ≡ Swept.Nothing → TellsDue (K.told self.old.shard) t None }
+            → HasEntries ⟦<K as Keeper>⟧ first list self.old
+            → HasEntries ⟦<K as Keeper>⟧ first
+            (list ++ swept_entry caller t result.found result.faults ∷ []) self.new }
+        ensures nothing { result.found ≡ Swept.Nothing
+            → HasDue ⟦<K as Keeper>⟧ self.old.shard t None }
         ensures fault { result.found ≡ Swept.KeeperFault
             → Rose (K.count self.old.shard) result.faults }
     {

@@ -10,7 +10,7 @@ use Rattle.load_generator.proofs.load.ask_all.Given as goal
 abbrev pub invariant-loop : goal.invariant-loop
 invariant-loop g l = record {
   asked : (list : List Entry) × HasAsked g.K.Keeper.can_count l.fn.load.seed list
-      (state_of g.K.Keeper.told g.K.Keeper.count l.desk)
+      (state_of g.K.Keeper l.desk)
       × (length list ≡ l.counter) × (l.generator ≡ generated (seeded l.fn.load.seed) list)
       × CountsAre l.counts list;
   made : l.generator.made ≡ l.counter;

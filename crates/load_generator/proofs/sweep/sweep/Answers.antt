@@ -9,7 +9,7 @@ use Rattle.load_generator.proofs.sweep.sweep.Goals as goal
 pub loop-removed-init : goal.loop-removed-init
 loop-removed-init g c = record {
   removes = λ first list stand. Removes-none g.K.Keeper.can_count first list
-      (state_of g.K.Keeper.told g.K.Keeper.count c.args.desk.now) stand;
+      (state_of g.K.Keeper c.args.desk.now) stand;
   within = omega arith;
   floor = refl;
 }
@@ -20,9 +20,9 @@ loop-removed-preserved g c = record {
       let before = c.loop-removed.invariant.removes first list stand in
       let after = c.sweep_one.ensures.stands first 0 nothing 0 (list ++ before.removals)
       (omega arith) before.desk in
-      let new = state_of g.K.Keeper.told g.K.Keeper.count c.sweep_one.new.self in
+      let new = state_of g.K.Keeper c.sweep_one.new.self in
       Removes-push g.K.Keeper.can_count first list
-      (state_of g.K.Keeper.told g.K.Keeper.count c.loop-removed.desk) new
+      (state_of g.K.Keeper c.loop-removed.desk) new
       c.loop-removed.removed c.in-Removed.key before
       (subst (λ s. DeskStandsFor g.K.Keeper.can_count first nothing 0
       (list ++ before.removals ++ swept_entry 0 last_moment s new.faults ∷ []) new)
@@ -36,8 +36,8 @@ returns-in_default g c = record {
   sweeps = λ first list stand.
       let before = c.loop-removed.invariant.removes first list stand in
       Sweeps-look g.K.Keeper.can_count first c.args.most list
-      (state_of g.K.Keeper.told g.K.Keeper.count c.loop-removed.desk)
-      (state_of g.K.Keeper.told g.K.Keeper.count c.sweep_one.new.self)
+      (state_of g.K.Keeper c.loop-removed.desk)
+      (state_of g.K.Keeper c.sweep_one.new.self)
       c.loop-removed.removed c.sweep_one.result before
       (c.sweep_one.ensures.stands first 0 nothing 0 (list ++ before.removals) (omega arith)
       before.desk) (not_removed c.sweep_one.result c.in_default.not-Removed)
@@ -48,6 +48,6 @@ returns-in_default g c = record {
 pub returns-clause-sweeps : goal.returns-clause-sweeps
 returns-clause-sweeps g c = λ first list stand.
     Sweeps-all g.K.Keeper.can_count first c.args.most list
-    (state_of g.K.Keeper.told g.K.Keeper.count c.loop-removed.desk)
+    (state_of g.K.Keeper c.loop-removed.desk)
     c.loop-removed.removed (c.loop-removed.invariant.removes first list stand)
     (omega (arith, c.loop-removed.invariant.within, c.loop-removed-test.false))

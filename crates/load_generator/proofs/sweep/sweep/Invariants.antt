@@ -9,9 +9,9 @@ abbrev pub invariant-loop-removed : goal.invariant-loop-removed
 invariant-loop-removed g l = record {
   removes : (first : ℕ) (list : List Entry)
       → DeskStandsFor g.K.Keeper.can_count first nothing 0 list
-      (state_of g.K.Keeper.told g.K.Keeper.count l.fn.desk)
+      (state_of g.K.Keeper l.fn.desk)
       → Removes g.K.Keeper.can_count first list
-      (state_of g.K.Keeper.told g.K.Keeper.count l.desk) l.removed;
+      (state_of g.K.Keeper l.desk) l.removed;
   within : l.removed ≤ l.fn.most;
   floor : g.K.Keeper.floor l.desk.keeper ≡ g.K.Keeper.floor l.fn.desk.keeper;
 }

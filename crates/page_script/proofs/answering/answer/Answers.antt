@@ -1,6 +1,6 @@
 use Rattle.std.proofs.Common.{arith}
 use Rattle.session_machine.specs.History.{nothing}
-use Rattle.page_script.specs.Standing.{state_of}
+use Rattle.desk.specs.Standing.{state_of}
 use Rattle.page_script.specs.World.{history}
 use Rattle.page_script.proofs.DeskLemmas.{DeskStands-push}
 use Rattle.page_script.proofs.answering.answer.Goals as goal

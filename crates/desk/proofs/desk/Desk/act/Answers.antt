@@ -20,7 +20,7 @@ returns-clause-stands g c = λ first caller opening count list caller_fits.
       cookies = c.draw_for-drawn.new.cookies;
     } in
     subst (λ (d : DeskOf _). DeskStandsFor g.K.Keeper.can_count first opening count list
-    (state_of told faults d)
+    (state_of g.K.Keeper d)
     → (c.draw_for-drawn.result ≡ draw_of first d.cookies.last (draws_in list) c.args.request.ask)
     × DeskStandsFor g.K.Keeper.can_count first opening count
     (list ++ asked_entry caller c.args.t c.args.request c.draw_for-drawn.result c.act-reply.result

@@ -19,7 +19,7 @@ returns-clause-stands g c = λ first caller opening count list caller_fits.
       cookies = c.self.inside.cookies;
     } in
     subst (λ (d : DeskOf _). DeskStandsFor g.K.Keeper.can_count first opening count list
-    (state_of told faults d)
+    (state_of g.K.Keeper d)
     → DeskStandsFor g.K.Keeper.can_count first opening count
     (list ++ swept_entry caller c.args.t c.sweep_one.result new.faults ∷ []) new) c.self.view_is
     (λ stand.

@@ -1,6 +1,6 @@
 use Rattle.std.proofs.Common.{refl}
 use Rattle.page_script.proofs.StepLemmas.{on_ok, EachSteps-prints, quiet, ran, line-joined}
-use Rattle.page_script.specs.Standing.{state_of}
+use Rattle.desk.specs.Standing.{state_of}
 use Rattle.page_script.proofs.script_page.ScriptPage.print_step.Goals as goal
 
 pub returns-in_ok-request-in-Send-clause-ok : goal.returns-in_ok-request-in-Send-clause-ok

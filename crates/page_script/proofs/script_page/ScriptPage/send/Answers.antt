@@ -1,6 +1,6 @@
 use Rattle.std.proofs.Common.{refl, inr}
 use Rattle.page_script.proofs.StepLemmas.{on_ok, on_err, sent, turn-joined}
-use Rattle.page_script.specs.Standing.{state_of}
+use Rattle.desk.specs.Standing.{state_of}
 use Rattle.page_script.proofs.script_page.ScriptPage.send.Goals as goal
 
 pub returns-clause-ok : goal.returns-clause-ok

@@ -1,6 +1,6 @@
 use Rattle.std.proofs.Common.{◌∙◌}
 use Rattle.page_script.proofs.StepLemmas.{ok-undone, EachSteps-prints}
-use Rattle.page_script.specs.Standing.{state_of}
+use Rattle.desk.specs.Standing.{state_of}
 use Rattle.page_script.proofs.script_page.ScriptPage.step.Goals as goal
 
 pub returns-clause-ok : goal.returns-clause-ok
