@@ -1,7 +1,7 @@
 -- A replay from its beginning to its end.
-use Rattle.std.proofs.Common.{◌≡◌, ℕ, ◌+◌, ◌<◌, ◌≤◌, ◌^◌, List, [], ◌++◌, length, take, Option, Some, None, Bool, refl, sym, ap, ◌∙◌, arith, append-nil, length-append, subst, inl, inr}
+use Rattle.std.proofs.Common.{◌≡◌, ℕ, ◌<◌, ◌≤◌, List, [], ◌++◌, length, take, Option, Some, None, Bool, refl, sym, ap, ◌∙◌, arith, append-nil, subst, inl, inr}
 use Rattle.std.specs.Prelude.{◌⊎◌}
-use Rattle.asp_base.specs.Outside.{Gives, IsAtEnd, Takes, TakesFront}
+use Rattle.asp_base.specs.Outside.{Takes, TakesFront}
 use Rattle.lock_laws.proofs.LawLemmas.{LocksHold-of_legal}
 use Rattle.session_machine.specs.declared.entry.Entry.{Entry}
 use Rattle.session_machine.specs.History.{nothing}
@@ -10,7 +10,7 @@ use Rattle.journal_text.specs.declared.judgement.Judgement.TheVariants.{Legal, I
 use Rattle.journal_text.specs.Checking.{Checked, HasTaken}
 use Rattle.journal_text.specs.JournalText.{IsJournal}
 use Rattle.journal_text.specs.Judging.{Judges}
-use Rattle.journal_text.specs.Reading.{Reading, new_reader, Taken, IsJournalOf, StopsAt, HasRead}
+use Rattle.journal_text.specs.Reading.{Reading, Taken, IsJournalOf, StopsAt, HasRead}
 use Rattle.journal_text.specs.Verdict.{judgement_line}
 use Rattle.journal_text.proofs.JournalLemmas.{journal_one, journal_stops}
 use Rattle.journal_replay.proofs.LineLemmas.{lines_of}
@@ -18,7 +18,7 @@ use Rattle.journal_replay.specs.declared.verdict.Verdict.{Verdict}
 use Rattle.journal_replay.specs.declared.verdict.Verdict.TheVariants as verdicts
 use Rattle.journal_replay.specs.declared.replayer.Replayer.{Replayer}
 use Rattle.journal_replay.specs.Progress.{Breaks, Checks, Closes, Finds, Gave, HasReplayed, Lacks, Waits, Went, verdict_of}
-use Rattle.journal_replay.specs.Replay.{End, EndsAs, GivesLocks, InputStopsAt, IsAll, IsDue, IsJudged, IsReplay, IsStatusOf, TellsJournal, TellsNoJournal, status_number, stop_line, verdict_number}
+use Rattle.journal_replay.specs.Replay.{End, EndsAs, GivesLocks, IsDue, IsJudged, IsReplay, IsStatusOf, TellsJournal, TellsNoJournal, status_number, verdict_number}
 use Rattle.stream_run.specs.declared.consumer.Consumer.{Ghosts}
 use Rattle.stream_run.specs.declared.ending.End.TheVariants as ends
 use Rattle.stream_run.specs.Ending.{Ended, IsOver, IfFewer, IsComplete}

@@ -1,5 +1,5 @@
 -- What was replayed goes on line by line.
-use Rattle.std.proofs.Common.{◌≡◌, ℕ, ◌+◌, ◌-◌, ◌<◌, ◌≤◌, ◌^◌, Bool, true, false, List, [], ◌∷◌, ◌++◌, length, Some, None, is_some, sym, refl, ap, ◌∙◌, arith, append_assoc, append-nil, length-append, subst, inl}
+use Rattle.std.proofs.Common.{◌≡◌, ℕ, ◌+◌, ◌-◌, ◌<◌, ◌≤◌, ◌^◌, Bool, true, false, List, [], ◌∷◌, ◌++◌, length, Some, None, is_some, sym, ap, ◌∙◌, arith, append_assoc, append-nil, length-append, subst, inl}
 use Rattle.std.specs.Prelude.{codes, MatchBool}
 use Rattle.std.specs.List.{flat_map}
 use Rattle.plain_words.specs.Words.{HasNo}

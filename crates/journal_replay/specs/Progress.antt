@@ -1,5 +1,5 @@
 -- Inside a replay: where it stands between two lines.
-use Rattle.std.specs.Prelude.{◌≡◌, ℕ, ◌≤◌, List, [], ◌++◌, length, Option, Some, None, Bool, IsTrue, IsFalse, ⊤}
+use Rattle.std.specs.Prelude.{◌≡◌, ℕ, ◌≤◌, List, [], ◌++◌, length, Some, None, IsTrue, IsFalse, ⊤}
 use Rattle.plain_words.specs.Words.{HasNo}
 use Rattle.journal_text.specs.declared.judgement.Judgement.{Judgement}
 use Rattle.journal_text.specs.declared.judgement.Judgement.TheVariants.{Legal, Illegal}

@@ -5,7 +5,6 @@ use Rattle.std.specs.List.{AllByRecursion}
 use Rattle.asp_base.specs.Outside.{Takes, TakesFront}
 use Rattle.desk.specs.Standing.{DeskState}
 use Rattle.session_machine.specs.declared.entry.Entry.{Entry}
-use Rattle.session_machine.specs.declared.item.Item.{Item}
 use Rattle.session_machine.specs.History.{nothing}
 use Rattle.shard_core.specs.Standing.{StandsFor}
 use Rattle.load_generator.specs.declared.counts.Counts.{Counts}

@@ -1,5 +1,5 @@
 -- A load under way.
-use Rattle.std.specs.Prelude.{◌≡◌, ◌⊎◌, ℕ, ◌+◌, ◌≤◌, List, [], ◌++◌, length, Option}
+use Rattle.std.specs.Prelude.{◌≡◌, ◌⊎◌, ℕ, ◌+◌, ◌≤◌, List, [], ◌++◌, length}
 use Rattle.std.specs.List.{AllByRecursion}
 use Rattle.keeper.specs.declared.keeping.Keeper.{Ghosts}
 use Rattle.desk.specs.Standing.{DeskOf, DeskState, DeskStandsFor, state_of}

@@ -1,16 +1,15 @@
 -- Where no answer comes.
-use Rattle.std.proofs.Common.{◌≡◌, ℕ, List, [], ◌++◌, Option, refl, sym, ap, ◌∙◌, subst, inl, inr, append-nil, true, false}
+use Rattle.std.proofs.Common.{◌≡◌, ℕ, List, [], ◌++◌, Option, refl, sym, ◌∙◌, subst, inl, inr, append-nil, true, false}
 use Rattle.std.specs.Prelude.{◌⊎◌, IsTrue}
 use Rattle.asp_base.specs.Outside.{IsAtEnd}
-use Rattle.asp_messages.specs.ReplySpelling.{Answer, SpellsReply}
+use Rattle.asp_messages.specs.ReplySpelling.{SpellsReply}
 use Rattle.asp_messages.specs.Stream.{HasNoMessage, IsHopeless}
 use Rattle.message_framing.specs.Held.{Held}
 use Rattle.page_link.specs.declared.exchange.Break.{Break}
 use Rattle.page_link.specs.declared.exchange.Break.TheVariants as breaks
 use Rattle.page_link.specs.Exchanges.{HearsNone, IsFed}
 use Rattle.page_link.specs.Links.{Receives}
-use Rattle.page_link.specs.Visits.{IsBadRest}
-use Rattle.page_link.proofs.LinkLemmas.{Receives-trans, Receives-nil}
+use Rattle.page_link.proofs.LinkLemmas.{Receives-trans}
 
 -- what can never begin with a reply begins with none now
 hopeless-none : (rest : List ℕ) → IsHopeless SpellsReply rest → HasNoMessage SpellsReply rest

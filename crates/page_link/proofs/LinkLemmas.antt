@@ -1,5 +1,5 @@
 -- What follows one call of a link after another.
-use Rattle.std.proofs.Common.{◌≡◌, ℕ, List, [], ◌++◌, length, take, Option, None, Some, refl, sym, ap, ◌∙◌, append_assoc, append-nil}
+use Rattle.std.proofs.Common.{◌≡◌, ℕ, List, [], ◌++◌, take, Option, None, Some, refl, sym, ap, ◌∙◌, append_assoc, append-nil}
 use Rattle.page_link.specs.Links.{Sends, SendsFront, Receives, Exchanges}
 use Rattle.page_link.specs.Visits.{IsFront}
 

@@ -1,19 +1,18 @@
 -- What a visit's rule never does: it tells no lost link where none was lost, and lets no page run
 -- that has ended.
 use Rattle.std.proofs.Common.{◌≡◌, ℕ, List, [], ◌∷◌, ◌++◌, Bool, true, false, refl, sym, ◌∙◌, ap}
-use Rattle.std.specs.Prelude.{reverse, Option, Some, None, ◌||◌, ◌⊎◌, if◌then◌else◌, nat_le, nat_lt}
+use Rattle.std.specs.Prelude.{reverse, Option, Some, None, ◌||◌, if◌then◌else◌}
 use Rattle.std.proofs.lemmas.List.{reverse-append}
 use Rattle.asp_messages.specs.declared.request.Ask.{Ask}
 use Rattle.asp_messages.specs.declared.request.Ask.TheVariants.{Read, Acquire, Release, Write, Remove, Reset}
 use Rattle.asp_messages.specs.declared.reply.Reply.TheVariants.{Found, Done as done_reply, Locked, Missing}
-use Rattle.visit_core.specs.declared.act.Ending.{Ending}
 use Rattle.visit_core.specs.declared.act.Heard.{Heard}
 use Rattle.visit_core.specs.declared.act.Heard.TheVariants.{Reply, Strange}
 use Rattle.visit_core.specs.declared.outcome.Outcome.{Outcome}
-use Rattle.visit_core.specs.declared.outcome.Outcome.TheVariants.{Done, LostLocked, LostMissing, GaveUp, LinkFault, Refused}
+use Rattle.visit_core.specs.declared.outcome.Outcome.TheVariants.{GaveUp, LinkFault}
 use Rattle.visit_core.specs.Acts.{Action, send, wait_until, run, over, IsToRun}
 use Rattle.visit_core.specs.Terms.{Terms}
-use Rattle.visit_core.specs.Rule.{Event, heard, ended, lost, send_ask, act_of, act_after, after_answer, after_locked, after_loss, after_end, at_end, refused, ask_for, ending_ask, own_cookie, locked_answers, has_ended}
+use Rattle.visit_core.specs.Rule.{Event, heard, ended, lost, send_ask, act_of, act_after, after_answer, after_loss, after_end, at_end, refused, ask_for, ending_ask, own_cookie, locked_answers, has_ended}
 use Rattle.page_link.specs.Turns.{has_lost}
 
 -- ---- pasts in either order

@@ -1,7 +1,6 @@
 -- Each way in which a turn can go.
-use Rattle.std.proofs.Common.{◌≡◌, ℕ, ◌+◌, ◌<◌, ◌≤◌, List, [], ◌∷◌, ◌++◌, length, Option, None, Some, Bool, true, false, refl, sym, ap, ◌∙◌, subst, arith, append_assoc, append-nil, length-append}
-use Rattle.std.specs.Prelude.{◌||◌, reverse, IsSome, IfSome}
-use Rattle.std.specs.List.{flat_map}
+use Rattle.std.proofs.Common.{◌≡◌, ℕ, ◌<◌, List, [], ◌∷◌, ◌++◌, Option, None, Some, Bool, true, false, refl, sym, ap, ◌∙◌, subst, arith, append-nil}
+use Rattle.std.specs.Prelude.{◌||◌, IsSome, IfSome}
 use Rattle.std.proofs.lemmas.List.Concat.{flat_map-cons}
 use Rattle.std.proofs.lemmas.List.{reverse-append}
 use Rattle.asp_base.specs.Moments.{GivesMoment}
@@ -21,13 +20,13 @@ use Rattle.visit_core.specs.Stages.{VisitState, HasPast, steps_left}
 use Rattle.visit_core.specs.Terms.{Terms, EndingFits, HeardFits}
 use Rattle.page_link.specs.declared.exchange.Break.TheVariants as breaks
 use Rattle.page_link.specs.declared.visit_end.VisitEnd.TheVariants as ends
-use Rattle.page_link.specs.Exchanges.{IsUnderway, IsAnswered, MayTurn, Asks, AsksInVain, kept_ending}
+use Rattle.page_link.specs.Exchanges.{IsUnderway, MayTurn, Asks, AsksInVain, kept_ending}
 use Rattle.page_link.specs.Links.{Exchanges}
-use Rattle.page_link.specs.Turns.{Turn, asked, paused, ran, heard_of, events_of, text_of, answer_of, past_of, texts_of, answers_of, has_lost}
+use Rattle.page_link.specs.Turns.{Turn, asked, paused, ran, heard_of, events_of, past_of, texts_of, answers_of, has_lost}
 use Rattle.page_link.specs.Visits.{Scene, IsNew, IsVisit, SentOver, loss_of_outcome}
 use Rattle.page_link.proofs.LinkLemmas.{Exchanges-nil}
 use Rattle.page_link.proofs.RuleLemmas.{has_ended-push, has_lost-append}
-use Rattle.page_link.proofs.VisitLemmas.{Goes, goes_on, Ends, ends_so, GaveMoments-nil}
+use Rattle.page_link.proofs.VisitLemmas.{goes_on, ends_so, GaveMoments-nil}
 
 -- ---- what is heard
 

@@ -1,39 +1,30 @@
 -- A visit goes on by a turn, or comes to its end.
-use Rattle.std.proofs.Common.{◌≡◌, ◌≢◌, ℕ, ◌+◌, ◌<◌, ◌≤◌, List, [], ◌∷◌, ◌++◌, length, take, map, get_or, Option, None, Some, Bool, true, false, refl, sym, ap, ◌∙◌, subst, inl, inr, arith, append_assoc, append-nil, length-append, below_more}
-use Rattle.std.specs.Prelude.{◌||◌, ◌⊎◌, reverse, IsSome, slice_index}
+use Rattle.std.proofs.Common.{◌≡◌, ℕ, ◌+◌, ◌<◌, ◌≤◌, List, [], ◌∷◌, ◌++◌, length, map, Option, None, Some, refl, sym, ap, ◌∙◌, subst, inl, inr, arith, append_assoc, append-nil, length-append, below_more}
+use Rattle.std.specs.Prelude.{reverse, slice_index}
 use Rattle.std.specs.List.{flat_map}
 use Rattle.std.proofs.lemmas.Grind.{flat_map-append}
 use Rattle.std.proofs.lemmas.List.Concat.{flat_map-cons}
 use Rattle.std.proofs.lemmas.List.{map-append, reverse-append, get_or_append_left}
 use Rattle.std.proofs.Math.Seq.{get_or-append_seam}
-use Rattle.std.proofs.lemmas.List.{length-map}
 use Rattle.asp_base.specs.Moments.{GivesMoment}
-use Rattle.asp_base.specs.Outside.{IsAtEnd}
-use Rattle.asp_messages.specs.declared.request.Request.{Request}
 use Rattle.asp_messages.specs.ReplySpelling.{Answer, SpellsReply}
-use Rattle.asp_messages.specs.RequestText.{request_text}
-use Rattle.asp_messages.specs.Stream.{Spelled, IsStream, HasNoMessage, IsHopeless}
-use Rattle.asp_messages.proofs.StreamLemmas.{Spelled-push, Spelled-append, IsStream-unique}
+use Rattle.asp_messages.specs.Stream.{Spelled}
+use Rattle.asp_messages.proofs.StreamLemmas.{Spelled-append, IsStream-unique}
 use Rattle.asp_messages.proofs.ReplyLemmas.{SpellsReply-unique}
 use Rattle.visit_core.specs.declared.act.Ending.{Ending}
-use Rattle.visit_core.specs.declared.act.Heard.{Heard}
-use Rattle.visit_core.specs.declared.outcome.Outcome.{Outcome}
-use Rattle.visit_core.specs.declared.outcome.Outcome.TheVariants.{Done, LostLocked, LostMissing, GaveUp, LinkFault, Refused}
-use Rattle.visit_core.specs.Acts.{Action, send, over}
+use Rattle.visit_core.specs.declared.outcome.Outcome.TheVariants.{LinkFault}
+use Rattle.visit_core.specs.Acts.{over}
 use Rattle.visit_core.specs.Rule.{Event, act_of, has_ended, IsLawful, EachFollows}
-use Rattle.visit_core.specs.Stages.{VisitState, HasPast, steps_left}
+use Rattle.visit_core.specs.Stages.{HasPast, steps_left}
 use Rattle.visit_core.specs.Terms.{Terms}
 use Rattle.visit_core.proofs.ReleaseLemmas.{releases}
-use Rattle.page_link.specs.declared.exchange.Break.{Break}
-use Rattle.page_link.specs.declared.exchange.Break.TheVariants as breaks
 use Rattle.page_link.specs.declared.visit_end.VisitEnd.{VisitEnd}
 use Rattle.page_link.specs.declared.visit_end.VisitEnd.TheVariants as ends
-use Rattle.page_link.specs.Exchanges.{IsUnderway, IsAnswered, IsUnanswered, IsSentPart, Asks, AsksInVain, kept_ending}
+use Rattle.page_link.specs.Exchanges.{IsUnderway, kept_ending}
 use Rattle.page_link.specs.Links.{Exchanges}
-use Rattle.page_link.specs.Turns.{Turn, asked, paused, ran, moment_of, heard_of, events_of, text_of, answer_of, past_of, texts_of, answers_of, has_lost, GaveMoments}
-use Rattle.page_link.specs.Visits.{Scene, Follows, AllFollow, IsVisit, ForcesOldLocks, IsBadRest, AreAllReplies, IsFront, IsWhole, SentAs, SentNext, loss_of, IfOver, TellsReplies, EndsWell, most_requests}
-use Rattle.page_link.proofs.LinkLemmas.{Exchanges-nil, Exchanges-trans}
-use Rattle.page_link.proofs.RuleLemmas.{has_ended-push, no_fault}
+use Rattle.page_link.specs.Turns.{Turn, moment_of, events_of, text_of, answer_of, past_of, texts_of, answers_of, GaveMoments}
+use Rattle.page_link.specs.Visits.{Scene, Follows, AllFollow, IsVisit, ForcesOldLocks, IsBadRest, AreAllReplies, SentAs, loss_of, IfOver, TellsReplies, EndsWell, most_requests}
+use Rattle.page_link.proofs.LinkLemmas.{Exchanges-trans}
 
 -- ---- moments
 

@@ -1,8 +1,6 @@
 -- Inside a visit: one request with its answer, and where a visit stands between two turns.
-use Rattle.std.specs.Prelude.{◌≡◌, ℕ, ◌+◌, ◌≤◌, List, [], ◌++◌, length, take, map, Option, Some, None, Bool, true, false, IfSome, IsSome, if◌then◌else◌, ⊤}
-use Rattle.asp_messages.specs.declared.request.Request.{Request}
+use Rattle.std.specs.Prelude.{◌≡◌, ℕ, ◌+◌, ◌≤◌, List, [], ◌++◌, length, map, Option, Some, None, Bool, true, false, IfSome, IsSome, ⊤}
 use Rattle.asp_messages.specs.ReplySpelling.{Answer, SpellsReply}
-use Rattle.asp_messages.specs.RequestText.{request_text}
 use Rattle.asp_messages.specs.Stream.{Spelled}
 use Rattle.message_framing.specs.Held.{Held}
 use Rattle.visit_core.specs.declared.act.Ending.{Ending}

@@ -18,7 +18,7 @@ use Rattle.asp_messages.proofs.SentRequestLemmas.{request_spelled}
 use Rattle.keeper.specs.declared.keeping.Keeper as keepers
 use Rattle.lock_laws.proofs.LawLemmas.{LocksHold-of_legal}
 use Rattle.lock_laws.proofs.FaultLemmas.{faults-counted, no-counts}
-use Rattle.message_framing.specs.Held.{Held, empty_reader}
+use Rattle.message_framing.specs.Held.{empty_reader}
 use Rattle.percent_encoding.proofs.PercentLemmas.{IsByte}
 use Rattle.session_machine.specs.declared.entry.Entry.{Entry}
 use Rattle.session_machine.specs.declared.item.Item.{Item}

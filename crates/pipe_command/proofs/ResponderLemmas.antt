@@ -1,5 +1,5 @@
 -- A responder goes on from call to call.
-use Rattle.std.proofs.Common.{◌≡◌, ℕ, ◌+◌, ◌<◌, Bool, true, false, List, [], ◌∷◌, ◌++◌, length, refl, sym, ap, ◌∙◌, arith, subst, inl, inr, cond, append_assoc, append-nil, length-append}
+use Rattle.std.proofs.Common.{◌≡◌, ℕ, ◌+◌, ◌<◌, Bool, true, false, List, [], ◌++◌, length, refl, sym, ap, ◌∙◌, arith, subst, inl, inr, cond, append-nil, length-append}
 use Rattle.std.specs.Prelude.{◌⊎◌, ◌≢◌, IsTrue, IsFalse, codes, ⊤}
 use Rattle.std.proofs.lemmas.Fmt.{decimal_digit}
 use Rattle.asp_messages.specs.declared.request.Message.{Message}
@@ -16,7 +16,7 @@ use Rattle.pipe_command.specs.declared.pipe.Output.TheVariants as outputs
 use Rattle.pipe_command.specs.declared.pipe.Pipe.{Pipe}
 use Rattle.pipe_command.specs.declared.responder.Answer.{Answer}
 use Rattle.pipe_command.specs.declared.responder.Responder.{Responder}
-use Rattle.pipe_command.specs.Answering.{IsAnswered, ServerState, due_for, entry_of}
+use Rattle.pipe_command.specs.Answering.{IsAnswered, due_for, entry_of}
 use Rattle.pipe_command.specs.PlainRun.{MayLack, output_of}
 use Rattle.pipe_command.specs.Progress.{Progress}
 use Rattle.desk.specs.Standing.{state_of as desk_state}

@@ -1,17 +1,15 @@
 -- What one message does to a server: to its items, to the cookies that are left, and to its clock.
-use Rattle.std.specs.Prelude.{◌≡◌, ℕ, ◌+◌, ◌≤◌, ◌^◌, List, [], ◌∷◌, ◌++◌, Option, ⊤}
+use Rattle.std.specs.Prelude.{◌≡◌, ℕ, ◌+◌, ◌≤◌, ◌^◌, List, [], ◌∷◌, ◌++◌, ⊤}
 use Rattle.asp_base.specs.Moments.{Ticking, step_moment}
 use Rattle.asp_messages.specs.declared.request.Request.{Request}
 use Rattle.asp_messages.specs.declared.request.Message.{Message}
 use Rattle.asp_messages.specs.declared.request.Message.TheVariants.{Fit, Unfit}
 use Rattle.asp_messages.specs.declared.reply.Reply.TheVariants.{Bad}
 use Rattle.asp_messages.specs.ReplyText.{reply_text}
-use Rattle.cookie_source.specs.Counting.{Counter}
 use Rattle.desk.specs.Draws.{draw_of, draws_in}
 use Rattle.desk.specs.Standing.{DeskState, DeskStandsFor}
 use Rattle.journal_text.specs.JournalText.{entry_line}
 use Rattle.session_machine.specs.declared.entry.Entry.{Entry}
-use Rattle.session_machine.specs.declared.item.Item.{Item}
 use Rattle.session_machine.specs.History.{nothing}
 use Rattle.shard_core.specs.Standing.{asked_entry}
 use Rattle.pipe_command.specs.declared.pipe.Output.{Output}

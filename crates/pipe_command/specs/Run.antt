@@ -1,5 +1,5 @@
 -- A run of `pipe`, from the bytes that were taken to those that were written.
-use Rattle.std.specs.Prelude.{◌⊎◌, ◌≢◌, ◌≡◌, ℕ, ◌<◌, ◌≤◌, ◌^◌, List, [], ◌++◌, length, Option, Some, None, Bool, ⊤}
+use Rattle.std.specs.Prelude.{◌⊎◌, ◌≢◌, ◌≡◌, ℕ, ◌<◌, ◌≤◌, ◌^◌, List, [], ◌++◌, length, Option, Some, None, ⊤}
 use Rattle.std.specs.List.{AllByRecursion}
 use Rattle.asp_base.specs.Outside.{Gives, IsAtEnd, Takes, TakesFront}
 use Rattle.asp_messages.specs.declared.request.Message.{Message}

@@ -1,10 +1,8 @@
 -- A run from its beginning to its end.
-use Rattle.std.proofs.Common.{◌≡◌, ℕ, ◌+◌, ◌-◌, ◌<◌, ◌≤◌, Bool, true, false, List, [], ◌∷◌, ◌++◌, length, take, drop, Option, refl, sym, ap, ◌∙◌, arith, subst, inl, inr, append_assoc, append-nil, length-append}
-use Rattle.std.specs.Prelude.{◌⊎◌, ◌≢◌, IsTrue, ⊤}
-use Rattle.asp_base.specs.Outside.{Gives, IsAtEnd, Takes, TakesFront}
-use Rattle.asp_base.proofs.OutsideLemmas.{Takes-nil, Takes-trans}
+use Rattle.std.proofs.Common.{◌≡◌, ℕ, ◌+◌, ◌<◌, ◌≤◌, Bool, true, false, List, [], ◌∷◌, ◌++◌, length, take, drop, Option, refl, sym, ap, ◌∙◌, arith, subst, inl, inr, append_assoc, append-nil}
+use Rattle.std.specs.Prelude.{◌⊎◌, IsTrue, ⊤}
+use Rattle.asp_base.specs.Outside.{Takes}
 use Rattle.plain_words.specs.Words.{HasNo, SplitsAt}
-use Rattle.session_machine.specs.declared.item.Item.{Item}
 use Rattle.session_machine.specs.History.{nothing}
 use Rattle.shard_core.specs.Standing.{StandsFor}
 use Rattle.page_script.specs.declared.line.Line.{Line}

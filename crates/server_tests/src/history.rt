@@ -1,5 +1,5 @@
 //! Two workers with ten connections each on one key: what the replies say is one legal history.
-ghost use Rattle.std.specs.Prelude.{◌≡◌, ◌≤◌, All, None, length, IfOk};
+ghost use Rattle.std.specs.Prelude.{◌≡◌, All, None, length, IfOk};
 
 use crate::clients::{ACQUIRE, Clients, NOTHING, OPEN, STEP, Steps, ask_of, client, code_after};
 use crate::memory::{sink, source};

@@ -1,5 +1,5 @@
 //! One stream: what is written, how it ends, and that cuts change nothing.
-ghost use Rattle.std.specs.Prelude.{◌≤◌, IfOk};
+ghost use Rattle.std.specs.Prelude.{IfOk};
 ghost use Rattle.state_store.specs.Passes.{IsPassOf};
 
 use crate::memory::{BAD, DONE, LAST_COOKIE, MISSING, clock, joined, keepers, sink, source};

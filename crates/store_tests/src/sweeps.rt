@@ -1,6 +1,5 @@
 //! What sweeps remove, and how they end.
-ghost use Rattle.std.specs.Prelude.{◌≡◌, ◌≤◌, ◌<◌, ◌^◌, IfOk};
-ghost use Rattle.asp_messages.specs.Ranges.{RequestFits};
+ghost use Rattle.std.specs.Prelude.{◌≤◌, ◌<◌};
 ghost use Rattle.state_store.specs.Passes.{IsPassOf};
 
 use crate::given::{answer, first_pass, keepers, open, sweep, write};

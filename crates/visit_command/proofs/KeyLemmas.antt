@@ -1,5 +1,5 @@
 -- A key is spelled by more than its first letter.
-use Rattle.std.proofs.Common.{suc, ◌≡◌, ℕ, ◌<◌, ◌≤◌, Bool, true, false, List, [], ◌∷◌, length, Option, Some, None, refl, arith, cond, is_some}
+use Rattle.std.proofs.Common.{◌≡◌, ℕ, ◌<◌, ◌≤◌, Bool, true, false, List, [], ◌∷◌, length, Option, Some, None, refl, arith, cond, is_some}
 use Rattle.std.specs.Prelude.{◌==◌, ◌&&◌}
 use Rattle.visit_command.specs.Words.{are_digits, byte_string, bytes_of_digits, some_bytes, key_of}
 

@@ -1,8 +1,7 @@
-use Rattle.std.proofs.Common.{◌≡◌, Some, true, false, sym, ◌∙◌, ap, refl, subst}
+use Rattle.std.proofs.Common.{◌≡◌, true, false, sym, ◌∙◌, ap, subst}
 use Rattle.std.specs.Prelude.{IsSome}
-use Rattle.visit_core.specs.declared.outcome.Outcome.{Outcome}
 use Rattle.visit_core.specs.declared.outcome.Outcome.TheVariants.{LinkFault}
-use Rattle.visit_core.specs.Acts.{Action, IsToRun, over}
+use Rattle.visit_core.specs.Acts.{IsToRun, over}
 use Rattle.asp_messages.specs.RequestText.{request_text}
 use Rattle.page_link.specs.Exchanges.{AsksInVain}
 use Rattle.page_link.proofs.RuleLemmas.{no_fault, runs-unended}

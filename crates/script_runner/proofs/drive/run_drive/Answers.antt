@@ -1,7 +1,7 @@
-use Rattle.std.proofs.Common.{◌≡◌, ℕ, sym, ap, ◌∙◌, subst}
+use Rattle.std.proofs.Common.{◌≡◌, ℕ, sym, ◌∙◌, subst}
 use Rattle.std.specs.Prelude.{◌⊎◌}
 use Rattle.script_runner.proofs.CompleteLemmas.{complete_run, no_script}
-use Rattle.script_runner.proofs.RunLemmas.{drive_of, floor_of}
+use Rattle.script_runner.proofs.RunLemmas.{drive_of}
 use Rattle.script_runner.proofs.drive.run_drive.Goals as goal
 
 pub returns-clause-ran : goal.returns-clause-ran

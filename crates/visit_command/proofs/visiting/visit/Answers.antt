@@ -1,4 +1,4 @@
-use Rattle.std.proofs.Common.{◌≡◌, ℕ, ◌+◌, ◌*◌, refl, sym, ap, ◌∙◌, subst, inl, inr}
+use Rattle.std.proofs.Common.{◌≡◌, ◌+◌, ◌*◌, refl, sym, ap, ◌∙◌, subst, inl, inr}
 use Rattle.page_link.specs.Visits.{TellsReplies}
 use Rattle.visit_core.specs.declared.terms.Limits.{Limits}
 use Rattle.visit_core.specs.Terms.{Terms}

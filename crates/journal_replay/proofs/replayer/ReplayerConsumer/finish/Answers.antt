@@ -1,6 +1,5 @@
 use Rattle.std.proofs.Common.{[], ◌++◌, ◌∙◌, ap}
 use Rattle.journal_text.specs.Verdict.{judgement_line}
-use Rattle.journal_replay.specs.Replay.{stop_line}
 use Rattle.journal_replay.proofs.EndingLemmas.{finds_judged}
 use Rattle.journal_replay.proofs.LineLemmas.{line_only}
 use Rattle.journal_replay.proofs.replayer.ReplayerConsumer.finish.Goals as goal

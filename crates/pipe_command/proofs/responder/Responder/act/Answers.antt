@@ -1,8 +1,8 @@
-use Rattle.std.proofs.Common.{◌≡◌, sym, subst, ap, refl, arith}
+use Rattle.std.proofs.Common.{sym, subst, ap, refl, arith}
 use Rattle.asp_base.specs.Moments.{Ticking}
 use Rattle.asp_messages.specs.declared.request.Message.{Message}
-use Rattle.session_machine.specs.History.{DrawFits, HasPlace, nothing}
-use Rattle.pipe_command.specs.Answering.{Answers, IfFit}
+use Rattle.session_machine.specs.History.{nothing}
+use Rattle.pipe_command.specs.Answering.{Answers}
 use Rattle.pipe_command.specs.Responding.{state_of}
 use Rattle.pipe_command.proofs.responder.Responder.act.Goals as goal
 

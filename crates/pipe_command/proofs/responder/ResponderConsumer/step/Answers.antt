@@ -1,4 +1,4 @@
-use Rattle.std.proofs.Common.{◌≡◌, ◌∙◌, ap, refl, rules, sym, subst}
+use Rattle.std.proofs.Common.{◌∙◌, ap, refl, rules, sym, subst}
 use Rattle.asp_messages.specs.RequestSpelling.{SpellsRequest}
 use Rattle.asp_messages.specs.Stream.{HasNoMessage}
 use Rattle.message_framing.specs.Held.{Held}
