@@ -9,7 +9,10 @@ use Rattle.message_framing.specs.Held.{Held}
 use Rattle.pipe_command.specs.declared.pipe.Verdict.{Verdict}
 use Rattle.pipe_command.specs.declared.pipe.Verdict.TheVariants.{Whole, Broken}
 use Rattle.pipe_command.specs.declared.responder.Responder.{Responder}
-use Rattle.pipe_command.specs.Answering.{ServerState}
+use Rattle.asp_messages.specs.declared.request.Message.{Message}
+use Rattle.pipe_command.specs.declared.responder.Answer.{Answer}
+use Rattle.pipe_command.specs.declared.pipe.Output.{Output}
+use Rattle.pipe_command.specs.Answering.{ServerState, Answers, IsAnswered}
 use Rattle.pipe_command.specs.Giving.{given_body, given_head}
 use Rattle.pipe_command.specs.PlainRun.{MayLack, closing, output_of}
 use Rattle.pipe_command.specs.Progress.{Progress}
@@ -50,6 +53,17 @@ module _ {K : Type 0} (G : Ghosts K) where
     desk = desk_state G now.desk;
     clock = now.clock;
   }
+
+  -- the message was answered, from one state of the server to the next
+  abbrev pub AnswersMessage : Message → Responder K → Responder K → Answer → Type 0
+  AnswersMessage message old new answer =
+      Answers G.can_count message (state_of old) (state_of new) answer
+
+  -- it was, and what is due for it satisfies this
+  abbrev pub LeavesAnswered : Output → (List ℕ → Type 0) → Message → Responder K → Responder K
+      → Type 0
+  LeavesAnswered output gives message old new =
+      IsAnswered G.can_count output gives message (state_of old) (state_of new)
 
   -- What answering leaves as it was.
   pub record Keeps (old new : Responder K) : Type 0 where

@@ -5,10 +5,10 @@ ghost use Rattle.asp_messages.specs.Ranges.{RequestFits, ReplyFits};
 ghost use Rattle.keeper.specs.Items.{IsEmptyTold};
 ghost use Rattle.session_machine.specs.History.{DrawFits, HasPlace};
 ghost use Rattle.pipe_command.specs.declared.pipe.Output.TheVariants as outputs;
-ghost use Rattle.pipe_command.specs.Answering.{Answers, IfFit, IsAnswered};
+ghost use Rattle.pipe_command.specs.Answering.{IfFit};
 ghost use Rattle.pipe_command.specs.Giving.{given_body, given_head};
 ghost use Rattle.pipe_command.specs.PlainRun.{closing, output_of};
-ghost use Rattle.pipe_command.specs.Responding.{Keeps, Went, given, state_of};
+ghost use Rattle.pipe_command.specs.Responding.{AnswersMessage, Keeps, LeavesAnswered, Went, given};
 ghost use Rattle.pipe_command.specs.Run.{PipeFits};
 
 use crate::pipe::{Output, Pipe, Verdict};
@@ -95,8 +95,7 @@ impl<K: Keeper> Responder<K> {
     /// Answers a message at the clock's next moment. One that is no request draws no cookie.
     fn act(&mut self, message: Message) -> Answer
         requires message { IfFit message RequestFits }
-        ensures answers { Answers K.can_count message
-            (state_of ⟦<K as Keeper>⟧ self.old) (state_of ⟦<K as Keeper>⟧ self.new) result }
+        ensures answers { AnswersMessage ⟦<K as Keeper>⟧ message self.old self.new result }
         ensures fits { ReplyFits result.reply }
         ensures moment { result.moment ≤ 2 ^ 62 }
         ensures place { IfFit message (λ r. HasPlace result.reply) }
@@ -126,9 +125,8 @@ impl<K: Keeper> Responder<K> {
     fn reply(&mut self, message: Message)
         requires due { IsTrue self.old.stream.is_due }
         requires message { IfFit message RequestFits }
-        ensures answered { IsAnswered K.can_count outputs.Replies (λ due. given self.new ≡ due)
-            message
-            (state_of ⟦<K as Keeper>⟧ self.old) (state_of ⟦<K as Keeper>⟧ self.new) }
+        ensures answered { LeavesAnswered ⟦<K as Keeper>⟧ outputs.Replies
+            (λ due. given self.new ≡ due) message self.old self.new }
         ensures keeps { Keeps ⟦<K as Keeper>⟧ self.old self.new }
     {
         let answer = self.act(message);
@@ -139,12 +137,11 @@ impl<K: Keeper> Responder<K> {
     /// Answers a request, and gives its entry's line.
     fn note_request(&mut self, request: Request) -> Result<(), NoMemory>
         requires request { RequestFits request }
-        ensures noted { OnOk result (IsAnswered K.can_count outputs.Journal
-            (λ due. given self.new ≡ due) (Message.Fit request)
-            (state_of ⟦<K as Keeper>⟧ self.old) (state_of ⟦<K as Keeper>⟧ self.new)) }
+        ensures noted { OnOk result (LeavesAnswered ⟦<K as Keeper>⟧ outputs.Journal
+            (λ due. given self.new ≡ due) (Message.Fit request) self.old self.new) }
         ensures no_memory { OnErr result ((self.new ≡ self.old)
-            ⊎ IsAnswered K.can_count outputs.Journal (λ due. ⊤) (Message.Fit request)
-            (state_of ⟦<K as Keeper>⟧ self.old) (state_of ⟦<K as Keeper>⟧ self.new)) }
+            ⊎ LeavesAnswered ⟦<K as Keeper>⟧ outputs.Journal (λ due. ⊤) (Message.Fit request)
+            self.old self.new) }
         ensures keeps { Keeps ⟦<K as Keeper>⟧ self.old self.new }
     {
         let asked = request.copy(self.alloc)?;
@@ -167,12 +164,11 @@ impl<K: Keeper> Responder<K> {
     /// request has a moment and no line.
     fn note(&mut self, message: Message) -> Result<(), NoMemory>
         requires message { IfFit message RequestFits }
-        ensures noted { OnOk result (IsAnswered K.can_count outputs.Journal
-            (λ due. given self.new ≡ due) message
-            (state_of ⟦<K as Keeper>⟧ self.old) (state_of ⟦<K as Keeper>⟧ self.new)) }
+        ensures noted { OnOk result (LeavesAnswered ⟦<K as Keeper>⟧ outputs.Journal
+            (λ due. given self.new ≡ due) message self.old self.new) }
         ensures no_memory { OnErr result ((self.new ≡ self.old)
-            ⊎ IsAnswered K.can_count outputs.Journal (λ due. ⊤) message
-            (state_of ⟦<K as Keeper>⟧ self.old) (state_of ⟦<K as Keeper>⟧ self.new)) }
+            ⊎ LeavesAnswered ⟦<K as Keeper>⟧ outputs.Journal (λ due. ⊤) message
+            self.old self.new) }
         ensures keeps { Keeps ⟦<K as Keeper>⟧ self.old self.new }
     {
         match message {
@@ -189,13 +185,13 @@ impl<K: Keeper> Responder<K> {
     fn answer(&mut self, message: Message) -> Result<(), NoMemory>
         requires due { IsTrue self.old.stream.is_due }
         requires message { IfFit message RequestFits }
-        ensures answered { OnOk result (IsAnswered K.can_count (output_of self.old.pipe.journal)
-            (λ due. given self.new ≡ due) message
-            (state_of ⟦<K as Keeper>⟧ self.old) (state_of ⟦<K as Keeper>⟧ self.new)) }
+        ensures answered { OnOk result (LeavesAnswered ⟦<K as Keeper>⟧
+            (output_of self.old.pipe.journal) (λ due. given self.new ≡ due) message
+            self.old self.new) }
         ensures journal { OnErr result (IsTrue self.old.pipe.journal) }
         ensures no_memory { OnErr result ((self.new ≡ self.old)
-            ⊎ IsAnswered K.can_count outputs.Journal (λ due. ⊤) message
-            (state_of ⟦<K as Keeper>⟧ self.old) (state_of ⟦<K as Keeper>⟧ self.new)) }
+            ⊎ LeavesAnswered ⟦<K as Keeper>⟧ outputs.Journal (λ due. ⊤) message
+            self.old self.new) }
         ensures keeps { Keeps ⟦<K as Keeper>⟧ self.old self.new }
     {
         match self.pipe.output() {
