@@ -7,8 +7,8 @@ use Rattle.asp_messages.specs.declared.reply.Reply.{Reply}
 use Rattle.asp_messages.specs.declared.reply.Reply.TheVariants.{Found, Done, Locked, Missing, Bad, KeeperFault, NoMemory, CookiesOut, PlacesOut}
 use Rattle.asp_messages.specs.Fields.{Field, Occurrence, absent, one, twice, once, at_least, body_length, most_body, most_cookie, most_minutes, number_needed, lock_cookie_field, named, response_fields}
 use Rattle.asp_messages.specs.Head.{most_head, IsReplyHead}
-use Rattle.asp_messages.specs.Ranges.{ReplyFits}
-use Rattle.asp_messages.specs.ReplySpelling.{Answer, reply, SpellsReply, answer_of, reply_of, strange_unless, found_reply, done_reply, ok_reply, locked_reply, plain_reply, minutes_field, action_flags_field, holder_field, age_field, most_age}
+use Rattle.asp_messages.specs.Ranges.{ReplyFits, SinceFits}
+use Rattle.asp_messages.specs.ReplySpelling.{Answer, reply, SpellsReply, answer_of, reply_of, strange_unless, found_reply, done_reply, ok_reply, locked_reply, plain_reply, minutes_field, action_flags_field, holder_field, age_field, most_age, since_field, most_since}
 use Rattle.asp_messages.specs.Stream.{HasNoMessage, IsWaiting}
 use Rattle.asp_messages.proofs.FramingLemmas.{body_length-le, number_or-in, number_needed-le, split_alike, waiting-short}
 use Rattle.asp_messages.proofs.RequestLemmas.{named-fits, lock_cookie-le}
@@ -94,14 +94,19 @@ ok_reply-fits absent body found r fits e = done_reply-fits body r e
 ok_reply-fits (one value) body found r fits e = fits e
 ok_reply-fits twice body found r fits e = fits e
 
-locked_reply-fits : (cookie age : Option ℕ) (r : Reply)
+since-fits : (since : Option ℕ) → ((s : ℕ) → since ≡ Some s → s ≤ most_since) → SinceFits since
+since-fits None early = tt
+since-fits (Some since) early = early since refl
+
+locked_reply-fits : (cookie age since : Option ℕ) (r : Reply)
     → ((c : ℕ) → cookie ≡ Some c → c ≤ most_cookie) → ((a : ℕ) → age ≡ Some a → a ≤ most_age)
-    → locked_reply cookie age ≡ Some r → ReplyFits r
-locked_reply-fits (Some cookie) (Some age) r small young e =
+    → ((s : ℕ) → since ≡ Some s → s ≤ most_since)
+    → locked_reply cookie age since ≡ Some r → ReplyFits r
+locked_reply-fits (Some cookie) (Some age) since r small young early e =
     let le = small cookie refl in
-    one_reply (Locked cookie age) r (omega arith, young age refl) e
-locked_reply-fits None age r small young e = no_reply r e
-locked_reply-fits (Some cookie) None r small young e = no_reply r e
+    one_reply (Locked cookie age since) r (omega arith, young age refl, since-fits since early) e
+locked_reply-fits None age since r small young early e = no_reply r e
+locked_reply-fits (Some cookie) None since r small young early e = no_reply r e
 
 plain_reply-fits : (status : ℕ) (r : Reply) → plain_reply status ≡ Some r → ReplyFits r
 plain_reply-fits status r e =
@@ -133,9 +138,10 @@ reply_of-fits status fields body r short e =
     (action_flags_field fields) r short (minutes-in (once fields (codes "Timeout")))
     (lock_cookie-le fields)))
     (chosen (status == 423) _ _ (Some r) (ReplyFits r)
-    (locked_reply-fits (holder_field fields) (age_field fields) r
+    (locked_reply-fits (holder_field fields) (age_field fields) (since_field fields) r
     (number_needed-le most_cookie (once fields (codes "LockCookie")))
-    (number_needed-le most_age (once fields (codes "LockAge"))))
+    (number_needed-le most_age (once fields (codes "LockAge")))
+    (number_needed-le most_since (once fields (codes "LockDate"))))
     (plain_reply-fits status r))
     e
 

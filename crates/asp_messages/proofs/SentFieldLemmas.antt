@@ -15,6 +15,9 @@ lock_pair n = (codes "LockCookie", decimal n)
 abbrev pub age_pair : ℕ → Field
 age_pair n = (codes "LockAge", decimal n)
 
+abbrev pub date_pair : ℕ → Field
+date_pair n = (codes "LockDate", decimal n)
+
 abbrev pub length_pair : ℕ → Field
 length_pair n = (codes "Content-Length", decimal n)
 
@@ -32,6 +35,10 @@ lock_sent n small = sent_number (codes "LockCookie") n refl (omega arith) (omega
 pub age_sent : (n : ℕ) → n < 2 ^ 64 → IsSent (age_pair n)
 unfolding is_token_byte
 age_sent n small = sent_number (codes "LockAge") n refl (omega arith) (omega arith) small
+
+pub date_sent : (n : ℕ) → n < 2 ^ 64 → IsSent (date_pair n)
+unfolding is_token_byte
+date_sent n small = sent_number (codes "LockDate") n refl (omega arith) (omega arith) small
 
 pub length_sent : (n : ℕ) → n < 2 ^ 64 → IsSent (length_pair n)
 unfolding is_token_byte

@@ -10,11 +10,11 @@ use Rattle.asp_base.specs.Text.{is_same_name}
 use Rattle.asp_messages.specs.declared.reply.Reply.{Reply}
 use Rattle.asp_messages.specs.declared.reply.Reply.TheVariants.{Found, Done, Locked, Missing, Bad, KeeperFault, NoMemory, CookiesOut, PlacesOut}
 use Rattle.asp_messages.specs.Fields.{Field, one, at_least, number_or, number_needed, named, body_length, most_body, most_minutes, most_cookie}
-use Rattle.asp_messages.specs.Ranges.{ReplyFits}
-use Rattle.asp_messages.specs.ReplySpelling.{reply, SpellsReply, strange_unless, reply_of, found_reply, locked_reply, most_age}
+use Rattle.asp_messages.specs.Ranges.{ReplyFits, SinceFits}
+use Rattle.asp_messages.specs.ReplySpelling.{reply, SpellsReply, strange_unless, reply_of, found_reply, locked_reply, most_age, most_since}
 use Rattle.asp_messages.specs.ReplyText.{line, ending, head_text, body_of, reply_text}
 use Rattle.asp_messages.proofs.DecimalLemmas.{number_or-decimal, number_needed-decimal, minutes-decimal, named-some}
-use Rattle.asp_messages.proofs.SentFieldLemmas.{timeout_pair, timeout_sent, lock_pair, lock_sent, age_pair, age_sent, length_pair, length_sent, first_pair, first_sent, announced}
+use Rattle.asp_messages.proofs.SentFieldLemmas.{timeout_pair, timeout_sent, lock_pair, lock_sent, age_pair, age_sent, date_pair, date_sent, length_pair, length_sent, first_pair, first_sent, announced}
 use Rattle.asp_messages.proofs.SentLemmas.{IsSent, AreSent, field_line, reply_lines, reply_sent}
 
 -- ---- the lines one after another
@@ -22,9 +22,6 @@ use Rattle.asp_messages.proofs.SentLemmas.{IsSent, AreSent, field_line, reply_li
 behind_four : (s a c f l e : List ℕ) → s ++ (a ++ c ++ f) ++ (l ++ e) ≡ s
     ++ (a ++ (c ++ (f ++ (l ++ [])))) ++ e
 behind_four s a c f l e = simp (append_assoc, append-nil)
-
-behind_three : (s a b l e : List ℕ) → s ++ (a ++ b) ++ (l ++ e) ≡ s ++ (a ++ (b ++ (l ++ []))) ++ e
-behind_three s a b l e = simp (append_assoc, append-nil)
 
 behind_one : (s l e : List ℕ) → s ++ [] ++ (l ++ e) ≡ s ++ (l ++ []) ++ e
 behind_one s l e = simp (append_assoc, append-nil)
@@ -130,27 +127,51 @@ module _ (body : List ℕ) (minutes : ℕ) (short : length body ≤ most_body) (
         (omega arith) (announced (length body) short)
         (found_is body minutes cookie 1 _ _ _ minutes_are cookie_is refl ∙ same true)
 
+locked_is : (cookie age : ℕ) (since : Option ℕ) (c a s : Option ℕ) → c ≡ Some cookie
+    → a ≡ Some age → s ≡ since → locked_reply c a s ≡ Some (Locked cookie age since)
+locked_is cookie age since c a s p q r = rw (p, q, r) refl
+
+locked_line : List ℕ
+locked_line = line (codes "HTTP/1.1 423 Locked")
+
 -- 423
-locked : (cookie age : ℕ) → cookie < 2 ^ 63 → age ≤ most_age
-    → SpellsReply (reply_text (Locked cookie age)) (reply (Locked cookie age))
-unfolding head_text reply_of is_same_name number_of
-locked cookie age range young =
-    by_lines (Locked cookie age) (codes "423") (codes "Locked")
-    (lock_pair cookie ∷ age_pair age ∷ length_pair 0 ∷ [])
-    (behind_three (line (codes "HTTP/1.1 423 Locked")) (field_line (lock_pair cookie))
-    (field_line (age_pair age)) (field_line (length_pair 0)) (line []))
-    refl refl refl (omega arith) (
-      lock_sent cookie (omega arith),
-      (
-        age_sent age (omega arith),
-        (length_sent 0 (omega arith), tt),
-      ),
-    ) (omega arith)
-    (announced 0 (omega arith))
-    (ap (λ c. locked_reply c (number_needed most_age (one (decimal age))))
-    (number_needed-decimal most_cookie cookie (omega arith) (omega arith))
-    ∙ ap (λ a. locked_reply (Some cookie) a) (number_needed-decimal most_age age (omega arith)
-    (omega arith)))
+module _ (cookie age : ℕ) (range : cookie < 2 ^ 63) (young : age ≤ most_age) where
+  held_is : number_needed most_cookie (one (decimal cookie)) ≡ Some cookie
+  held_is = number_needed-decimal most_cookie cookie (omega arith) (omega arith)
+
+  age_is : number_needed most_age (one (decimal age)) ≡ Some age
+  age_is = number_needed-decimal most_age age (omega arith) (omega arith)
+
+  lock_first : IsSent (lock_pair cookie)
+  lock_first = lock_sent cookie (omega arith)
+
+  age_next : IsSent (age_pair age)
+  age_next = age_sent age (omega arith)
+
+  empty_last : AreSent (length_pair 0 ∷ [])
+  empty_last = (length_sent 0 (omega arith), tt)
+
+  locked : (since : Option ℕ) → SinceFits since
+      → SpellsReply (reply_text (Locked cookie age since)) (reply (Locked cookie age since))
+  unfolding head_text reply_of is_same_name number_of locked_line
+  locked None early =
+      by_lines (Locked cookie age None) (codes "423") (codes "Locked")
+      (lock_pair cookie ∷ age_pair age ∷ length_pair 0 ∷ [])
+      (behind_four locked_line (field_line (lock_pair cookie)) (field_line (age_pair age)) []
+      (field_line (length_pair 0)) (line []))
+      refl refl refl (omega arith) (lock_first, (age_next, empty_last)) (omega arith)
+      (announced 0 (omega arith))
+      (locked_is cookie age None _ _ _ held_is age_is refl)
+  locked (Some since) early =
+      by_lines (Locked cookie age (Some since)) (codes "423") (codes "Locked")
+      (lock_pair cookie ∷ age_pair age ∷ date_pair since ∷ length_pair 0 ∷ [])
+      (behind_four locked_line (field_line (lock_pair cookie)) (field_line (age_pair age))
+      (field_line (date_pair since)) (field_line (length_pair 0)) (line []))
+      refl refl refl (omega arith)
+      (lock_first, (age_next, (date_sent since (omega arith), empty_last))) (omega arith)
+      (announced 0 (omega arith))
+      (locked_is cookie age (Some since) _ _ _ held_is age_is
+      (number_needed-decimal most_since since (omega arith) early))
 
 pub reply_spelled : (r : Reply) → ReplyFits r → SpellsReply (reply_text r) (reply r)
 unfolding head_text reply_of is_same_name number_of
@@ -160,7 +181,8 @@ reply_spelled (Found body minutes (Some c) first) (short, (some, small), (is_nam
     found_held body minutes short some small c is_named range first
 reply_spelled Done fits = plain Done (codes "200") (codes "OK") refl refl refl refl (omega arith)
     refl refl
-reply_spelled (Locked cookie age) (range, young) = locked cookie age range young
+reply_spelled (Locked cookie age since) (range, young, early) =
+    locked cookie age range young since early
 reply_spelled Missing fits = plain Missing (codes "404") (codes "Not Found") refl refl refl refl
     (omega arith) refl refl
 reply_spelled Bad fits = plain Bad (codes "400") (codes "Bad Request") refl refl refl refl

@@ -46,10 +46,21 @@ reply_spelling (Found body minutes cookie first) =
     codes "found" then cookie_word cookie then decimal minutes then flag_word first then
     bytes_word body
 reply_spelling Done = codes "done"
-reply_spelling (Locked cookie age) = codes "locked" then decimal cookie then decimal age
+reply_spelling (Locked cookie age since) = codes "locked" then decimal cookie then decimal age
 reply_spelling Missing = codes "missing"
 reply_spelling Bad = codes "bad"
 reply_spelling KeeperFault = codes "keeper-fault"
 reply_spelling NoMemory = codes "no-memory"
 reply_spelling CookiesOut = codes "cookies-out"
 reply_spelling PlacesOut = codes "places-out"
+
+-- the moment of an acquisition, where it is told
+abbrev pub since_word : Option ℕ → List ℕ
+since_word None = codes "-"
+since_word (Some since) = decimal since
+
+-- the spelling of a reply with the moment of the acquisition behind the age of a lock
+unfoldable pub dated_spelling : Reply → List ℕ
+dated_spelling (Locked cookie age since) = codes "locked" then decimal cookie then decimal age then
+    since_word since
+dated_spelling reply = reply_spelling reply

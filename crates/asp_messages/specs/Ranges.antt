@@ -19,6 +19,10 @@ CookieFits cookie = IfSome cookie (λ c. (0 < c) × (c < 2 ^ 63))
 abbrev pub MinutesFit : ℕ → Type 0
 MinutesFit minutes = (0 < minutes) × (minutes ≤ most_minutes)
 
+-- a moment of an acquisition that is told is at most 2^62
+abbrev pub SinceFits : Option ℕ → Type 0
+SinceFits since = IfSome since (λ s. s ≤ 2 ^ 62)
+
 -- a key has 1 to 1,024 bytes
 abbrev pub KeyFits : List ℕ → Type 0
 KeyFits key = (0 < length key) × (length key ≤ 1024)
@@ -40,5 +44,5 @@ pub record RequestFits (request : Request) : Type 0 where
 -- each length and number of the reply is in its range
 abbrev pub ReplyFits : Reply → Type 0
 ReplyFits (Found body minutes cookie first) = BodyFits body × MinutesFit minutes × CookieFits cookie
-ReplyFits (Locked cookie age) = (cookie < 2 ^ 63) × (age ≤ 2 ^ 62)
+ReplyFits (Locked cookie age since) = (cookie < 2 ^ 63) × (age ≤ 2 ^ 62) × SinceFits since
 ReplyFits reply = ⊤

@@ -35,6 +35,14 @@ holder_field fields = number_needed most_cookie (once fields (codes "LockCookie"
 abbrev pub age_field : List Field → Option ℕ
 age_field fields = number_needed most_age (once fields (codes "LockAge"))
 
+-- the latest moment that is told, in milliseconds
+abbrev pub most_since : ℕ
+most_since = 2 ^ 62
+
+-- the moment of the acquisition, where `LockDate` stands once and is a moment
+abbrev pub since_field : List Field → Option ℕ
+since_field fields = number_needed most_since (once fields (codes "LockDate"))
+
 -- ---- what a status says
 
 -- 200 with `Timeout`: the content, where `Timeout`, `LockCookie` and `ActionFlags` are in range
@@ -54,10 +62,11 @@ ok_reply absent body found = done_reply body
 ok_reply (one value) body found = found
 ok_reply twice body found = found
 
--- 423: a lock is in the way, where `LockCookie` and `LockAge` are there and in range
-abbrev pub locked_reply : Option ℕ → Option ℕ → Option Reply
-locked_reply (Some cookie) (Some age) = Some (Locked cookie age)
-locked_reply cookie age = None
+-- 423: a lock is in the way, where `LockCookie` and `LockAge` are there and in range; `LockDate` is
+-- read past where it says no moment
+abbrev pub locked_reply : Option ℕ → Option ℕ → Option ℕ → Option Reply
+locked_reply (Some cookie) (Some age) since = Some (Locked cookie age since)
+locked_reply cookie age since = None
 
 -- the statuses that say all by themselves; the body is dropped
 abbrev pub plain_reply : ℕ → Option Reply
@@ -77,7 +86,7 @@ reply_of status fields body =
     (found_reply body (minutes_field fields) (lock_cookie_field fields)
     (action_flags_field fields))
     else (if status == 423
-    then locked_reply (holder_field fields) (age_field fields)
+    then locked_reply (holder_field fields) (age_field fields) (since_field fields)
     else plain_reply status)
 
 -- ---- messages

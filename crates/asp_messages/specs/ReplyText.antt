@@ -20,6 +20,11 @@ cookie_line (Some cookie) = number_line (codes "LockCookie") cookie
 abbrev pub first_line : Bool → List ℕ
 first_line first = if first then line (codes "ActionFlags: 1") else []
 
+-- the line of the moment of the acquisition, where it is told
+abbrev pub since_line : Option ℕ → List ℕ
+since_line None = []
+since_line (Some since) = number_line (codes "LockDate") since
+
 -- the lines that end a head: the length of the body, and an empty line
 abbrev pub ending : ℕ → List ℕ
 ending n = number_line (codes "Content-Length") n ++ line []
@@ -28,7 +33,7 @@ ending n = number_line (codes "Content-Length") n ++ line []
 abbrev pub status_line : Reply → List ℕ
 status_line (Found body minutes cookie first) = line (codes "HTTP/1.1 200 OK")
 status_line Done = line (codes "HTTP/1.1 200 OK")
-status_line (Locked cookie age) = line (codes "HTTP/1.1 423 Locked")
+status_line (Locked cookie age since) = line (codes "HTTP/1.1 423 Locked")
 status_line Missing = line (codes "HTTP/1.1 404 Not Found")
 status_line Bad = line (codes "HTTP/1.1 400 Bad Request")
 status_line KeeperFault = line (codes "HTTP/1.1 500 Keeper Fault")
@@ -40,8 +45,8 @@ status_line PlacesOut = line (codes "HTTP/1.1 508 Places Out")
 abbrev pub reply_fields : Reply → List ℕ
 reply_fields (Found body minutes cookie first) =
     number_line (codes "Timeout") minutes ++ cookie_line cookie ++ first_line first
-reply_fields (Locked cookie age) = number_line (codes "LockCookie") cookie
-    ++ number_line (codes "LockAge") age
+reply_fields (Locked cookie age since) = number_line (codes "LockCookie") cookie
+    ++ number_line (codes "LockAge") age ++ since_line since
 reply_fields reply = []
 
 -- the content of a reply
@@ -61,7 +66,7 @@ reply_text reply = head_text reply ++ body_of reply
 abbrev pub status_number : Reply → ℕ
 status_number (Found body minutes cookie first) = 200
 status_number Done = 200
-status_number (Locked cookie age) = 423
+status_number (Locked cookie age since) = 423
 status_number Missing = 404
 status_number Bad = 400
 status_number KeeperFault = 500

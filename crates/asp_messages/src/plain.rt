@@ -2,7 +2,7 @@
 ghost use Rattle.std.specs.Prelude.{◌≡◌, ◌++◌, codes, decimal, OnOk, OnErr};
 ghost use Rattle.hex.specs.Hex.{encode_lower};
 ghost use Rattle.asp_messages.specs.Appending.{Extends};
-ghost use Rattle.asp_messages.specs.PlainSpelling.{◌then◌, cookie_word, flag_word, bytes_word, ask_spelling, reply_spelling};
+ghost use Rattle.asp_messages.specs.PlainSpelling.{◌then◌, cookie_word, flag_word, bytes_word, since_word, ask_spelling, reply_spelling, dated_spelling};
 
 use crate::append::{or_undo, push, push_hex, then_number};
 use crate::{Ask, Reply};
@@ -91,7 +91,7 @@ fn push_reply(out: &mut Vec<u8>, reply: &Reply) -> Result<(), NoMemory>
             then_bytes(out, body)
         }
         Reply::Done => push(out, b"done"),
-        Reply::Locked { cookie, age } => {
+        Reply::Locked { cookie, age, .. } => {
             push(out, b"locked")?;
             then_number(out, *cookie)?;
             then_number(out, *age)
@@ -105,12 +105,49 @@ fn push_reply(out: &mut Vec<u8>, reply: &Reply) -> Result<(), NoMemory>
     }
 }
 
-/// Appends the plain spelling of the reply. After `NoMemory` the buffer holds what it held.
+/// Appends the plain spelling of the reply, without the moment of an acquisition. After `NoMemory` the buffer holds what it held.
 pub fn spell_reply(out: &mut Vec<u8>, reply: &Reply) -> Result<(), NoMemory>
     ensures ok { OnOk result (out.new.items ≡ out.old.items ++ reply_spelling reply.now) }
     ensures err { OnErr result (out.new.items ≡ out.old.items) }
 {
     let len = out.len();
     let written = push_reply(out, reply);
+    or_undo(written, out, len)
+}
+
+fn then_since(out: &mut Vec<u8>, since: Option<u64>) -> Result<(), NoMemory>
+    ensures ok { OnOk result (out.new.items ≡ out.old.items then since_word since) }
+    ensures err { OnErr result (Extends out.old.items out.new.items) }
+{
+    match since {
+        None => push(out, b" -"),
+        Some(since) => then_number(out, since),
+    }
+}
+
+#[tactic(auto, unfolding(crate::specs::PlainSpelling::dated_spelling))]
+fn push_dated(out: &mut Vec<u8>, reply: &Reply) -> Result<(), NoMemory>
+    ensures ok { OnOk result (out.new.items ≡ out.old.items ++ dated_spelling reply.now) }
+    ensures err { OnErr result (Extends out.old.items out.new.items) }
+{
+    match reply {
+        Reply::Locked { cookie, age, since } => {
+            push(out, b"locked")?;
+            then_number(out, *cookie)?;
+            then_number(out, *age)?;
+            then_since(out, *since)
+        }
+        _ => push_reply(out, reply),
+    }
+}
+
+/// Appends the plain spelling of the reply, with the moment of the acquisition behind the age of a
+/// lock, `-` where it is not told. After `NoMemory` the buffer holds what it held.
+pub fn spell_dated(out: &mut Vec<u8>, reply: &Reply) -> Result<(), NoMemory>
+    ensures ok { OnOk result (out.new.items ≡ out.old.items ++ dated_spelling reply.now) }
+    ensures err { OnErr result (out.new.items ≡ out.old.items) }
+{
+    let len = out.len();
+    let written = push_dated(out, reply);
     or_undo(written, out, len)
 }

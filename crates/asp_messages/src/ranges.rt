@@ -1,7 +1,7 @@
 //! The ranges of lengths and numbers.
 ghost use Rattle.std.specs.Prelude.{◌≡◌, ◌↔◌, IsTrue};
 ghost use Rattle.asp_messages.specs.Fields.{named};
-ghost use Rattle.asp_messages.specs.Ranges.{BodyFits, CookieFits, MinutesFit, RequestFits, ReplyFits, AskFits};
+ghost use Rattle.asp_messages.specs.Ranges.{BodyFits, CookieFits, MinutesFit, SinceFits, RequestFits, ReplyFits, AskFits};
 
 use crate::{Ask, Reply, Request};
 use asp_base::Bytes;
@@ -21,6 +21,9 @@ pub const MOST_COOKIE: u64 = (1 << 63) - 1;
 /// The greatest age of a lock, in seconds.
 pub const MOST_AGE: u64 = 1 << 62;
 
+/// The latest moment that a reply tells, in milliseconds.
+pub const MOST_SINCE: u64 = 1 << 62;
+
 fn body_fits(body: &Bytes) -> bool
     ensures { IsTrue result ↔ BodyFits body.now }
 {
@@ -33,6 +36,15 @@ fn cookie_fits(cookie: Option<u64>) -> bool
     match cookie {
         None => true,
         Some(cookie) => cookie > 0 && cookie <= MOST_COOKIE,
+    }
+}
+
+fn since_fits(since: Option<u64>) -> bool
+    ensures { IsTrue result ↔ SinceFits since }
+{
+    match since {
+        None => true,
+        Some(since) => since <= MOST_SINCE,
     }
 }
 
@@ -84,7 +96,9 @@ pub fn reply_fits(reply: &Reply) -> bool
             cookie,
             ..
         } => body_fits(body) && minutes_fit(*minutes) && cookie_fits(*cookie),
-        Reply::Locked { cookie, age } => *cookie <= MOST_COOKIE && *age <= MOST_AGE,
+        Reply::Locked { cookie, age, since } => {
+            *cookie <= MOST_COOKIE && *age <= MOST_AGE && since_fits(*since)
+        }
         _ => true,
     }
 }

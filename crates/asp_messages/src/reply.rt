@@ -27,6 +27,8 @@ pub enum Reply {
         cookie: u64,
         /// How long the lock has been held, in whole seconds.
         age: u64,
+        /// The moment of the acquisition, in milliseconds, where it is told.
+        since: Option<u64>,
     },
     /// 404: the session has no item.
     Missing,

@@ -1,6 +1,6 @@
 //! The canonical text of a reply: a head in a fixed buffer, and the body behind it.
 ghost use Rattle.std.specs.Prelude.{◌≡◌, ◌+◌, ◌≤◌, ◌++◌, [], length, codes, decimal};
-ghost use Rattle.asp_messages.specs.ReplyText.{head_text, body_of, number_line, cookie_line, first_line, ending, status_line, reply_fields};
+ghost use Rattle.asp_messages.specs.ReplyText.{head_text, body_of, number_line, cookie_line, since_line, first_line, ending, status_line, reply_fields};
 
 use crate::Reply;
 use itoa::Buffer;
@@ -72,6 +72,16 @@ impl ReplyHead {
         }
     }
 
+    fn push_since(&mut self, since: Option<u64>)
+        requires { length self.old + 32 ≤ 256 }
+        ensures text { self.new ≡ self.old ++ since_line since }
+        ensures room { length self.new ≤ length self.old + 32 }
+    {
+        if let Some(since) = since {
+            self.push_number(b"LockDate", since);
+        }
+    }
+
     fn push_first(&mut self, first: bool)
         requires { length self.old + 16 ≤ 256 }
         ensures text { self.new ≡ self.old ++ first_line first }
@@ -103,7 +113,7 @@ fn status_text(reply: &Reply) -> &'static [u8]
 fn push_fields(head: &mut ReplyHead, reply: &Reply)
     requires { length head.old ≤ 27 }
     ensures text { head.new ≡ head.old ++ reply_fields reply.now }
-    ensures room { length head.new ≤ length head.old + 90 }
+    ensures room { length head.new ≤ length head.old + 99 }
 {
     match reply {
         Reply::Found {
@@ -116,9 +126,10 @@ fn push_fields(head: &mut ReplyHead, reply: &Reply)
             head.push_cookie(*cookie);
             head.push_first(*first);
         }
-        Reply::Locked { cookie, age } => {
+        Reply::Locked { cookie, age, since } => {
             head.push_number(b"LockCookie", *cookie);
             head.push_number(b"LockAge", *age);
+            head.push_since(*since);
         }
         _ => {}
     }

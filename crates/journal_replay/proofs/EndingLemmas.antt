@@ -2,8 +2,9 @@
 use Rattle.std.proofs.Common.{◌≡◌, ℕ, ◌<◌, ◌≤◌, List, [], ◌++◌, length, take, Option, Some, None, Bool, refl, sym, ap, ◌∙◌, arith, append-nil, subst, inl, inr}
 use Rattle.std.specs.Prelude.{◌⊎◌}
 use Rattle.asp_base.specs.Outside.{Takes, TakesFront}
-use Rattle.lock_laws.proofs.LawLemmas.{LocksHold-of_legal}
+use Rattle.lock_laws.proofs.LawLemmas.{LocksHoldIn-of_legal}
 use Rattle.session_machine.specs.declared.entry.Entry.{Entry}
+use Rattle.session_machine.specs.declared.profile.Profile.{Profile}
 use Rattle.session_machine.specs.History.{nothing}
 use Rattle.journal_text.specs.declared.judgement.Judgement.{Judgement}
 use Rattle.journal_text.specs.declared.judgement.Judgement.TheVariants.{Legal, Illegal}
@@ -26,40 +27,50 @@ use Rattle.stream_run.specs.Flow.{Flow, flow}
 
 -- ---- what is found at the end of the input
 
-locks_of : (judgement : Judgement) (place : ℕ) (list : List Entry) → Judges place list judgement
-    → GivesLocks judgement list
-locks_of (Legal entries) place list judges = LocksHold-of_legal nothing 0 list judges.0
-locks_of (Illegal at why) place list judges = tt
+locks_of : (profile : Profile) (judgement : Judgement) (place : ℕ) (list : List Entry)
+    → Judges profile place list judgement → GivesLocks profile judgement list
+locks_of profile (Legal entries) place list judges =
+    LocksHoldIn-of_legal profile nothing 0 list judges.0
+locks_of profile (Illegal at why) place list judges = tt
 
+-- the judgement that a checker gives of what it took, with its line
 judged_of : (bytes : List ℕ) (checker : Checked) (judgement : Judgement) (taken : Taken)
     → IsJournalOf bytes taken → Checks taken checker
-    → ((list : List Entry) → HasTaken checker list → Judges checker.first list judgement)
-    → IsJudged bytes judgement
+    → ((list : List Entry) → HasTaken checker list
+    → Judges checker.known.profile checker.first list judgement)
+    → (judged : IsJudged bytes judgement) × (judged.profile ≡ checker.known.profile)
 judged_of bytes checker judgement None journal checks judges = absurd journal
 judged_of bytes checker judgement (Some t) journal checks judges =
-    let judged = subst (λ p. Judges p t.1 judgement) checks.0 (judges t.1 checks.1) in
-    record {
-      place = t.0;
-      list = t.1;
-      journal = journal;
-      judges = judged;
-      locks =
-          locks_of judgement t.0 t.1 judged;
-    }
+    let judged : Judges t.0 t.1 t.2 judgement = subst (λ v. Judges v t.1 t.2 judgement) checks.0
+    (subst (λ p. Judges checker.known.profile p t.2 judgement) checks.1 (judges t.2 checks.2)) in
+    (
+      record {
+        profile = t.0;
+        place = t.1;
+        list = t.2;
+        journal = journal;
+        judges = judged;
+        locks = locks_of t.0 judgement t.1 t.2 judged;
+      },
+      sym checks.0,
+    )
 
 -- what the judgement finds, with its line
 pub finds_judged : (judgement : Judgement) (verdict : Verdict) (bytes : List ℕ) (reader : Reading)
     (checker : Checked) (line : List ℕ)
     → ((text : List ℕ) (taken : Taken) → HasRead text taken reader → IsJournalOf text taken)
-    → ((list : List Entry) → HasTaken checker list → Judges checker.first list judgement)
-    → verdict ≡ verdict_of judgement → line ≡ judgement_line judgement
+    → ((list : List Entry) → HasTaken checker list
+    → Judges checker.known.profile checker.first list judgement)
+    → verdict ≡ verdict_of judgement → line ≡ judgement_line checker.known.profile judgement
     → HasReplayed bytes reader checker → Finds verdict bytes line
 finds_judged judgement verdict bytes reader checker line journal judges is line_is has =
     subst (λ v. Finds v bytes line) (sym is)
-    (finds judgement (judged_of bytes checker judgement has.taken (journal bytes has.taken has.read)
-    has.checks judges) line_is)
+    (let found = judged_of bytes checker judgement has.taken (journal bytes has.taken has.read)
+    has.checks judges in
+    finds judgement found.0 (line_is ∙ ap (λ v. judgement_line v judgement) (sym found.1)))
   where
-    finds : (judgement : Judgement) → IsJudged bytes judgement → line ≡ judgement_line judgement
+    finds : (judgement : Judgement) (judged : IsJudged bytes judgement)
+        → line ≡ judgement_line judged.profile judgement
         → Finds (verdict_of judgement) bytes line
     finds (Legal entries) judged line_is = (entries, judged, line_is)
     finds (Illegal place why) judged line_is = (place, why, judged, line_is)
@@ -186,45 +197,50 @@ module _ (first now : Replayer) (input : List ℕ) where
   found_of verdicts.Illegal whole last (inr (front, behind, more, is, breaks)) = absurd breaks
 
 module _ (input : List ℕ) where
-  judges_of : (judgement : Judgement) → IsJudged input judgement → (place : ℕ) (list : List Entry)
-      → IsJournal input place list → Judges place list judgement
-  judges_of judgement judged place list journal =
-      let one = journal_one input judged.place place judged.list list judged.journal journal in
-      subst (λ p. Judges p list judgement) one.0
-      (subst (λ l. Judges judged.place l judgement) one.1 judged.judges)
+  judges_of : (judgement : Judgement) → IsJudged input judgement → (profile : Profile) (place : ℕ)
+      (list : List Entry) → IsJournal input profile place list
+      → Judges profile place list judgement
+  judges_of judgement judged profile place list journal =
+      let one = journal_one input judged.profile profile judged.place place judged.list list
+      judged.journal journal in
+      subst (λ v. Judges v place list judgement) one.0
+      (subst (λ p. Judges judged.profile p list judgement) one.1
+      (subst (λ l. Judges judged.profile judged.place l judgement) one.2 judged.judges))
 
-  status_judged : (verdict : Verdict) (line : List ℕ) → Finds verdict input line → (place : ℕ)
-      (list : List Entry) → IsJournal input place list
-      → IsStatusOf (verdict_number verdict) place list
-  status_judged verdicts.Legal line (entries, judged, is) place list journal =
-      inl (Legal entries, judges_of (Legal entries) judged place list journal, refl)
-  status_judged verdicts.Illegal line (at, why, judged, is) place list journal =
-      inl (Illegal at why, judges_of (Illegal at why) judged place list journal, refl)
-  status_judged verdicts.NotAJournal line (offset, stops, is) place list journal =
-      absurd (journal_stops input place offset list journal stops)
+  status_judged : (verdict : Verdict) (line : List ℕ) → Finds verdict input line
+      → (profile : Profile) (place : ℕ) (list : List Entry) → IsJournal input profile place list
+      → IsStatusOf (verdict_number verdict) profile place list
+  status_judged verdicts.Legal line (entries, judged, is) profile place list journal =
+      inl (Legal entries, judges_of (Legal entries) judged profile place list journal, refl)
+  status_judged verdicts.Illegal line (at, why, judged, is) profile place list journal =
+      inl (Illegal at why, judges_of (Illegal at why) judged profile place list journal, refl)
+  status_judged verdicts.NotAJournal line (offset, stops, is) profile place list journal =
+      absurd (journal_stops input profile place offset list journal stops)
 
   status_refused : (verdict : Verdict) (line : List ℕ) → Finds verdict input line
-      → ((place : ℕ) (list : List Entry) → IsJournal input place list → ⊥)
+      → ((profile : Profile) (place : ℕ) (list : List Entry) → IsJournal input profile place list
+      → ⊥)
       → (verdict_number verdict ≡ 3) ⊎ (verdict_number verdict ≡ 6)
   status_refused verdicts.Legal line (entries, judged, is) none =
-      absurd (none judged.place judged.list judged.journal)
+      absurd (none judged.profile judged.place judged.list judged.journal)
   status_refused verdicts.Illegal line (at, why, judged, is) none =
-      absurd (none judged.place judged.list judged.journal)
+      absurd (none judged.profile judged.place judged.list judged.journal)
   status_refused verdicts.NotAJournal line found none = inl refl
 
 module _ (most : ℕ) (first now : Replayer) (f : Flow) where
   pub judged-complete : (told : Option (List ℕ × List ℕ)) (end : End)
-      → IfFewer told most (IsComplete ghosts first now f end) → (place : ℕ) (list : List Entry)
-      → TellsJournal told most place list → IsStatusOf (status_number end) place list
-  judged-complete None end complete place list tells = absurd tells
-  judged-complete (Some told) (ends.Over verdict) complete place list tells =
+      → IfFewer told most (IsComplete ghosts first now f end)
+      → (profile : Profile) (place : ℕ) (list : List Entry)
+      → TellsJournal told most profile place list → IsStatusOf (status_number end) profile place list
+  judged-complete None end complete profile place list tells = absurd tells
+  judged-complete (Some told) (ends.Over verdict) complete profile place list tells =
       let (whole, last, over, wrote) = complete tells.0 in
       let found = found_of first now told.1 verdict whole last over in
-      status_judged told.1 verdict found.0 found.1 place list tells.1
-  judged-complete (Some told) ends.NoMemory complete place list tells = inr refl
-  judged-complete (Some told) ends.ReadFault complete place list tells = absurd (complete tells.0)
-  judged-complete (Some told) ends.WriteFault complete place list tells = absurd (complete tells.0)
-  judged-complete (Some told) ends.Long complete place list tells = absurd (complete tells.0)
+      status_judged told.1 verdict found.0 found.1 profile place list tells.1
+  judged-complete (Some told) ends.NoMemory complete profile place list tells = inr refl
+  judged-complete (Some told) ends.ReadFault complete profile place list tells = absurd (complete tells.0)
+  judged-complete (Some told) ends.WriteFault complete profile place list tells = absurd (complete tells.0)
+  judged-complete (Some told) ends.Long complete profile place list tells = absurd (complete tells.0)
 
   pub refused-complete : (told : Option (List ℕ × List ℕ)) (end : End)
       → IfFewer told most (IsComplete ghosts first now f end)

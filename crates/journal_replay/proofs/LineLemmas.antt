@@ -1,14 +1,15 @@
 -- What was replayed goes on line by line.
-use Rattle.std.proofs.Common.{◌≡◌, ℕ, ◌+◌, ◌-◌, ◌<◌, ◌≤◌, ◌^◌, Bool, true, false, List, [], ◌∷◌, ◌++◌, length, Some, None, is_some, sym, ap, ◌∙◌, arith, append_assoc, append-nil, length-append, subst, inl}
+use Rattle.std.proofs.Common.{◌≡◌, ℕ, ◌+◌, ◌-◌, ◌<◌, ◌≤◌, ◌^◌, Bool, true, false, List, [], ◌∷◌, ◌++◌, length, Some, None, sym, ap, ◌∙◌, arith, append_assoc, append-nil, length-append, subst, inl}
 use Rattle.std.specs.Prelude.{codes, MatchBool}
 use Rattle.std.specs.List.{flat_map}
 use Rattle.plain_words.specs.Words.{HasNo}
 use Rattle.session_machine.specs.declared.entry.Entry.{Entry}
+use Rattle.session_machine.specs.declared.profile.Profile.{Profile}
 use Rattle.journal_text.specs.declared.reader.JournalNext.TheVariants as nexts
 use Rattle.journal_text.specs.Checking.{Checked, HasTaken}
 use Rattle.journal_text.specs.JournalText.{entry_words, entry_line, head_line, line, most_line}
 use Rattle.journal_text.specs.Next.{taken_with}
-use Rattle.journal_text.specs.Reading.{IsNoLine, Taken, taken_text, StopsAt, Reading, broken, HasRead}
+use Rattle.journal_text.specs.Reading.{IsNoLine, Taken, begun_by, taken_text, StopsAt, Reading, broken, HasRead}
 use Rattle.journal_text.proofs.ReadingLemmas.{no_line_more}
 use Rattle.journal_replay.specs.Progress.{Checks, HasReplayed, Waits}
 use Rattle.journal_replay.specs.Replay.{AreLines}
@@ -26,7 +27,7 @@ of_broken false A B e h = cc
 rest_held : (text : List ℕ) (taken : Taken) (r : Reading) (has : HasRead text taken r)
     → r.is_broken ≡ false → has.rest ≡ r.held
 rest_held text taken r has whole =
-    of_whole r.is_broken (IsNoLine r.is_begun has.rest) (has.rest ≡ r.held) whole has.holds
+    of_whole r.is_broken (IsNoLine r.begun has.rest) (has.rest ≡ r.held) whole has.holds
 
 -- what is held behind the lines is the front of one more
 pub lines_of : (bytes : List ℕ) (r : Reading) (checker : Checked) → HasReplayed bytes r checker
@@ -51,79 +52,82 @@ stops_whatever text more taken r has wrong = record {
   fits = has.fits;
   text_is = ap (λ t. t ++ more) has.text_is ∙ append_assoc (taken_text taken) has.rest more;
   offset_is = has.offset_is;
-  stops = inl (no_line_more (is_some taken) has.rest more
+  stops = inl (no_line_more (begun_by taken) has.rest more
       (subst (λ b. IsNoLine b has.rest) has.begun
-      (of_broken r.is_broken (IsNoLine r.is_begun has.rest) (has.rest ≡ r.held) wrong
+      (of_broken r.is_broken (IsNoLine r.begun has.rest) (has.rest ≡ r.held) wrong
       has.holds)));
 }
 
 -- ---- the entries are no more than the bytes
 
-entries_short : (list : List Entry) → length list ≤ length (flat_map entry_line list)
-entries_short [] = omega arith
-entries_short (e ∷ es) =
-    let rest = entries_short es in
-    let parts = length-append (entry_line e) (flat_map entry_line es) in
-    let one = length-append (entry_words e) (codes "\n") in
+entries_short : (profile : Profile) (list : List Entry)
+    → length list ≤ length (flat_map (entry_line profile) list)
+entries_short profile [] = omega arith
+entries_short profile (e ∷ es) =
+    let rest = entries_short profile es in
+    let parts = length-append (entry_line profile e) (flat_map (entry_line profile) es) in
+    let one = length-append (entry_words profile e) (codes "\n") in
     omega (arith, rest, parts, one)
 
 taken_short : (text : List ℕ) (taken : Taken) (r : Reading) (checker : Checked)
-    → HasRead text taken r → r.is_begun ≡ true → Checks taken checker → checker.taken ≤ length text
-taken_short text None r checker has begun checks = let none = has.begun in cc
-taken_short text (Some t) r checker has begun checks =
+    (profile : Profile) → HasRead text taken r → r.begun ≡ Some profile → Checks taken checker
+    → checker.taken ≤ length text
+taken_short text None r checker profile has begun checks = let none = has.begun in cc
+taken_short text (Some t) r checker profile has begun checks =
     let all = ap length has.text_is in
     let parts = length-append (taken_text (Some t)) has.rest in
-    let lines = length-append (head_line t.0) (flat_map entry_line t.1) in
-    let few = entries_short t.1 in
-    let count = checks.1.taken in
+    let lines = length-append (head_line t.0 t.1) (flat_map (entry_line t.0) t.2) in
+    let few = entries_short t.0 t.2 in
+    let count = checks.2.taken in
     omega (arith, all, parts, lines, few, count)
 
-pub few_taken : (text : List ℕ) (r : Reading) (checker : Checked) → HasReplayed text r checker
-    → length text + 0 ≤ 2 ^ 40 → r.is_begun ≡ true → checker.taken < 2 ^ 63 - 1
-few_taken text r checker has short begun =
-    let few = taken_short text has.taken r checker has.read begun has.checks in
+pub few_taken : (text : List ℕ) (r : Reading) (checker : Checked) (profile : Profile)
+    → HasReplayed text r checker → length text + 0 ≤ 2 ^ 40 → r.begun ≡ Some profile
+    → checker.taken < 2 ^ 63 - 1
+few_taken text r checker profile has short begun =
+    let few = taken_short text has.taken r checker profile has.read begun has.checks in
     omega (arith, few, short)
 
 -- ---- one line
 
 -- the first line was taken
-pub head_at : (text : List ℕ) (place : ℕ) (old new : Reading) (checker checker' : Checked)
-    → old.is_begun ≡ false → HasReplayed text old checker
+pub head_at : (text : List ℕ) (profile : Profile) (place : ℕ) (old new : Reading) (checker checker' : Checked)
+    → old.begun ≡ None → HasReplayed text old checker
     → ((taken : Taken) → HasRead text taken old
-    → HasRead text (taken_with (nexts.Head place) taken) new) → new.is_broken ≡ false
-    → checker'.first ≡ place → HasTaken checker' [] → HasReplayed text new checker'
-head_at text place old new checker checker' begun has reads whole first empty =
+    → HasRead text (taken_with (nexts.Head profile place) taken) new) → new.is_broken ≡ false
+    → checker'.known.profile ≡ profile → checker'.first ≡ place → HasTaken checker' [] → HasReplayed text new checker'
+head_at text profile place old new checker checker' begun has reads whole in_profile first empty =
     at has.taken has.read
   where
     at : (taken : Taken) → HasRead text taken old → HasReplayed text new checker'
     at None read = record {
-      taken = Some (place, []);
+      taken = Some (profile, place, []);
       read = reads None read;
       checks =
-          (first, empty);
+          (in_profile, first, empty);
       whole = whole;
     }
     at (Some t) read = let some = read.begun in cc
 
 -- the line of an entry was taken
 pub entry_at : (text : List ℕ) (e : Entry) (old new : Reading) (checker checker' : Checked)
-    → old.is_begun ≡ true → HasReplayed text old checker
+    (profile : Profile) → old.begun ≡ Some profile → HasReplayed text old checker
     → ((taken : Taken) → HasRead text taken old
     → HasRead text (taken_with (nexts.Entry e) taken) new) → new.is_broken ≡ false
-    → checker'.first ≡ checker.first
+    → checker'.known.profile ≡ checker.known.profile → checker'.first ≡ checker.first
     → ((list : List Entry) → HasTaken checker list → HasTaken checker' (list ++ e ∷ []))
     → HasReplayed text new checker'
-entry_at text e old new checker checker' begun has reads whole first takes =
+entry_at text e old new checker checker' profile begun has reads whole in_profile first takes =
     at has.taken has.read has.checks
   where
     at : (taken : Taken) → HasRead text taken old → Checks taken checker
         → HasReplayed text new checker'
     at None read checks = let none = read.begun in cc
     at (Some t) read checks = record {
-      taken = Some (t.0, t.1 ++ e ∷ []);
+      taken = Some (t.0, t.1, t.2 ++ e ∷ []);
       read =
           reads (Some t) read;
-      checks = (first ∙ checks.0, takes t.1 checks.1);
+      checks = (in_profile ∙ checks.0, first ∙ checks.1, takes t.2 checks.2);
       whole = whole;
     }
 

@@ -13,10 +13,12 @@ use Rattle.journal_replay.specs.declared.verdict.Verdict.TheVariants as verdicts
 use Rattle.journal_replay.specs.declared.replayer.Replayer.{Replayer}
 use Rattle.journal_replay.specs.Replay.{IsJudged, stop_line}
 
--- the checker has taken the entries that were taken of a text, the first of them at its place
+-- the checker has taken the entries that were taken of a text, the first of them at its place, in the
+-- text's profile
 abbrev pub Checks : Taken → Checked → Type 0
 Checks None checker = ⊤
-Checks (Some t) checker = (checker.first ≡ t.0) × HasTaken checker t.1
+Checks (Some t) checker = (checker.known.profile ≡ t.0) × (checker.first ≡ t.1)
+    × HasTaken checker t.2
 
 -- The reader was fed the text, and the checker has taken the entries that were taken of it.
 pub record HasReplayed (text : List ℕ) (reader : Reading) (checker : Checked) : Type 0 where
@@ -54,9 +56,11 @@ Breaks verdicts.Illegal bytes whole last = ⊥
 -- what is found of the bytes where none follow
 abbrev pub Finds : Verdict → List ℕ → List ℕ → Type 0
 Finds verdicts.Legal bytes line =
-    (entries : ℕ) × IsJudged bytes (Legal entries) × (line ≡ judgement_line (Legal entries))
-Finds verdicts.Illegal bytes line = (place : ℕ) × (why : Why) × IsJudged bytes (Illegal place why)
-    × (line ≡ judgement_line (Illegal place why))
+    (entries : ℕ) × (judged : IsJudged bytes (Legal entries))
+    × (line ≡ judgement_line judged.profile (Legal entries))
+Finds verdicts.Illegal bytes line = (place : ℕ) × (why : Why)
+    × (judged : IsJudged bytes (Illegal place why))
+    × (line ≡ judgement_line judged.profile (Illegal place why))
 Finds verdicts.NotAJournal bytes line =
     (offset : ℕ) × StopsAt bytes offset × (line ≡ stop_line offset)
 

@@ -5,8 +5,9 @@ use Rattle.asp_base.specs.Outside.{Gives, IsAtEnd, Takes, TakesFront}
 use Rattle.asp_messages.specs.PlainSpelling.{◌then◌}
 use Rattle.plain_words.specs.Words.{HasNo}
 use Rattle.session_machine.specs.declared.entry.Entry.{Entry}
+use Rattle.session_machine.specs.declared.profile.Profile.{Profile}
 use Rattle.session_machine.specs.History.{nothing}
-use Rattle.lock_laws.specs.Laws.{LocksHold}
+use Rattle.lock_laws.specs.Laws.{LocksHoldIn}
 use Rattle.journal_text.specs.declared.judgement.Judgement.{Judgement}
 use Rattle.journal_text.specs.declared.judgement.Judgement.TheVariants.{Legal, Illegal}
 use Rattle.journal_text.specs.declared.judgement.Why.{Why}
@@ -27,17 +28,19 @@ abbrev pub IsAll : Option (List ℕ × List ℕ) → List ℕ → ℕ → Type 0
 IsAll source' bytes most = IsAtEnd source' × (length bytes < most)
 
 -- what locks give, where the list is judged legal
-abbrev pub GivesLocks : Judgement → List Entry → Type 0
-GivesLocks (Legal entries) list = LocksHold nothing 0 list
-GivesLocks (Illegal place why) list = ⊤
+abbrev pub GivesLocks : Profile → Judgement → List Entry → Type 0
+GivesLocks profile (Legal entries) list = LocksHoldIn profile nothing 0 list
+GivesLocks profile (Illegal place why) list = ⊤
 
--- The bytes are the journal of a list of entries, and this is the judgement of the list.
+-- The bytes are the journal of a profile of a list of entries, and this is the judgement of the list
+-- in that profile.
 pub record IsJudged (bytes : List ℕ) (judgement : Judgement) : Type 0 where
+  pub profile : Profile
   pub place : ℕ
   pub list : List Entry
-  pub journal : IsJournal bytes place list
-  pub judges : Judges place list judgement
-  pub locks : GivesLocks judgement list
+  pub journal : IsJournal bytes profile place list
+  pub judges : Judges profile place list judgement
+  pub locks : GivesLocks profile judgement list
 
 -- the input stops being a journal at this offset: the bytes are all of it and stop there, or they
 -- stop there whatever follows them
@@ -69,11 +72,12 @@ stop_line offset = (codes "not a journal at" then decimal offset) ++ codes "\n"
 abbrev pub IsDue : Verdict → Option (List ℕ × List ℕ) → List ℕ → ℕ → List ℕ → Type 0
 IsDue verdicts.Legal source' bytes most line =
     IsAll source' bytes most
-    × ((entries : ℕ) × IsJudged bytes (Legal entries) × (line ≡ judgement_line (Legal entries)))
+    × ((entries : ℕ) × (judged : IsJudged bytes (Legal entries))
+    × (line ≡ judgement_line judged.profile (Legal entries)))
 IsDue verdicts.Illegal source' bytes most line =
     IsAll source' bytes most
-    × ((place : ℕ) × (why : Why) × IsJudged bytes (Illegal place why)
-    × (line ≡ judgement_line (Illegal place why)))
+    × ((place : ℕ) × (why : Why) × (judged : IsJudged bytes (Illegal place why))
+    × (line ≡ judgement_line judged.profile (Illegal place why)))
 IsDue verdicts.NotAJournal source' bytes most line =
     (offset : ℕ) × InputStopsAt source' bytes most offset × (line ≡ stop_line offset)
 
@@ -112,16 +116,19 @@ pub record IsReplay (most : ℕ) (source source' : Option (List ℕ × List ℕ)
 
 -- ---- completeness
 
--- the source tells its input, which is the journal of this list and has fewer than so many bytes
-abbrev pub TellsJournal : Option (List ℕ × List ℕ) → ℕ → ℕ → List Entry → Type 0
-TellsJournal None most place list = ⊥
-TellsJournal (Some told) most place list = (length told.1 < most) × IsJournal told.1 place list
+-- the source tells its input, which is the journal of this profile of this list and has fewer than
+-- so many bytes
+abbrev pub TellsJournal : Option (List ℕ × List ℕ) → ℕ → Profile → ℕ → List Entry → Type 0
+TellsJournal None most profile place list = ⊥
+TellsJournal (Some told) most profile place list =
+    (length told.1 < most) × IsJournal told.1 profile place list
 
 -- the source tells its input, which is no journal and has fewer than so many bytes
 abbrev pub TellsNoJournal : Option (List ℕ × List ℕ) → ℕ → Type 0
 TellsNoJournal None most = ⊥
 TellsNoJournal (Some told) most =
-    (length told.1 < most) × ((place : ℕ) (list : List Entry) → ¬ IsJournal told.1 place list)
+    (length told.1 < most)
+    × ((profile : Profile) (place : ℕ) (list : List Entry) → ¬ IsJournal told.1 profile place list)
 
 -- the exit status of a judgement
 abbrev pub judgement_status : Judgement → ℕ
@@ -129,7 +136,7 @@ judgement_status (Legal entries) = 0
 judgement_status (Illegal place why) = 8
 
 -- the status is that of the list's judgement, or memory was wanting
-abbrev pub IsStatusOf : ℕ → ℕ → List Entry → Type 0
-IsStatusOf status place list =
-    ((judgement : Judgement) × Judges place list judgement × (status ≡ judgement_status judgement))
+abbrev pub IsStatusOf : ℕ → Profile → ℕ → List Entry → Type 0
+IsStatusOf status profile place list =
+    ((judgement : Judgement) × Judges profile place list judgement × (status ≡ judgement_status judgement))
     ⊎ (status ≡ 6)

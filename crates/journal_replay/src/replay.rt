@@ -1,6 +1,7 @@
 //! The top call of a replay.
 ghost use Rattle.std.specs.Prelude.{◌≡◌, ◌⊎◌, ◌≤◌, ◌^◌, ℕ, List, Option, IsTrue};
 ghost use Rattle.asp_base.specs.Causes.{Rose};
+ghost use Rattle.session_machine.specs.declared.profile.Profile.{Profile};
 ghost use Rattle.session_machine.specs.declared.entry.Entry.{Entry};
 ghost use Rattle.journal_replay.specs.Replay.{End, IsReplay, IsStatusOf, TellsJournal, TellsNoJournal, status_number};
 
@@ -30,10 +31,10 @@ pub fn run_replay<S: Source, T: Sink>(alloc: Global, most: u64, source: &mut S, 
 
     // Where the input is a journal and neither source nor sink fails, it is judged, if memory is
     // there.
-    ensures judged { (place : ℕ) (list : List Entry)
-        → TellsJournal (S.told source.old) most place list
+    ensures judged { (profile : Profile) (place : ℕ) (list : List Entry)
+        → TellsJournal (S.told source.old) most profile place list
         → (Rose (S.faults source.old) (S.faults source.new) → ⊥)
-        → (Rose (T.faults sink.old) (T.faults sink.new) → ⊥) → IsStatusOf result place list }
+        → (Rose (T.faults sink.old) (T.faults sink.new) → ⊥) → IsStatusOf result profile place list }
 
     // Where the input is none and neither fails, that is told, if memory is there.
     ensures refused { TellsNoJournal (S.told source.old) most

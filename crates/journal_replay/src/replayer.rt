@@ -7,6 +7,7 @@ use crate::Verdict;
 use asp_base::NoMemory;
 use itoa::Buffer;
 use journal_text::{Checker, JournalNext, JournalReader, Judgement, write_judgement};
+use session_machine::Profile;
 use std::alloc::Global;
 use stream_run::{Consumer, Step};
 
@@ -49,7 +50,7 @@ impl Replayer {
         Replayer {
             alloc,
             reader: JournalReader::new(alloc),
-            checker: Checker::new(alloc, 0),
+            checker: Checker::new(alloc, Profile::Three, 0),
             line: Vec::new(alloc),
         }
     }
@@ -85,8 +86,8 @@ impl Consumer for Replayer {
 
     fn step(&mut self, _more: bool) -> Step<Verdict> {
         match self.reader.next() {
-            JournalNext::Head { place } => {
-                self.checker = Checker::new(self.alloc, place);
+            JournalNext::Head { profile, place } => {
+                self.checker = Checker::new(self.alloc, profile, place);
                 Step::Did
             }
             JournalNext::Entry(entry) => match self.checker.take(entry) {
@@ -106,7 +107,7 @@ impl Consumer for Replayer {
         match self.reader.finish() {
             None => {
                 let judgement = self.checker.verdict();
-                write_judgement(&mut self.line, judgement)?;
+                write_judgement(&mut self.line, self.checker.profile(), judgement)?;
                 Ok(verdict_of(judgement))
             }
             Some(offset) => {

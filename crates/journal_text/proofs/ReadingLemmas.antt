@@ -1,11 +1,12 @@
 -- What a reader has read of a text goes on by each call.
-use Rattle.std.proofs.Common.{◌≡◌, ◌≢◌, ℕ, ◌+◌, ◌<◌, Bool, true, false, List, [], ◌∷◌, ◌++◌, length, take, drop, Some, None, Result, Ok, Err, OnOk, refl, sym, ap, ◌∙◌, arith, append_assoc, append-nil, length-append, length-take, subst, inl, inr, ◌⊎◌}
+use Rattle.std.proofs.Common.{◌≡◌, ◌≢◌, ℕ, ◌+◌, ◌<◌, Bool, true, false, List, [], ◌∷◌, ◌++◌, length, take, drop, Option, Some, None, Result, Ok, Err, OnOk, refl, sym, ap, ◌∙◌, arith, append_assoc, append-nil, length-append, length-take, subst, inl, inr, ◌⊎◌}
 use Rattle.std.specs.Prelude.{codes, MatchBool, if◌then◌else◌}
 use Rattle.std.specs.List.{AllByRecursion}
 use Rattle.std.proofs.lemmas.Bool.{cases_eq}
 use Rattle.std.proofs.lemmas.List.{flat_map_more}
 use Rattle.std.proofs.lemmas.List.Elements.{All-append, All-cons, All-nil}
 use Rattle.session_machine.specs.declared.entry.Entry.{Entry}
+use Rattle.session_machine.specs.declared.profile.Profile.{Profile}
 use Rattle.plain_words.specs.Words.{HasNo, SplitsAt}
 use Rattle.journal_text.specs.declared.reader.JournalNext.{JournalNext}
 use Rattle.journal_text.specs.declared.reader.JournalNext.TheVariants as nexts
@@ -53,9 +54,9 @@ split_more text more words rest s = record {
   first = s.first;
 }
 
-long_more : (is_begun : Bool) (text more : List ℕ) → IsTooLong text
-    → IsNoLine is_begun (text ++ more)
-long_more is_begun text more long = elim (first_feed more) [
+long_more : (begun : Option Profile) (text more : List ℕ) → IsTooLong text
+    → IsNoLine begun (text ++ more)
+long_more begun text more long = elim (first_feed more) [
   | inl none ↦
       let l = length-append text more in
       let h = long.1 in
@@ -70,25 +71,25 @@ long_more is_begun text more long = elim (first_feed more) [
         rest,
         whole,
         λ is.
-            let short = line_short is_begun (text ++ words) is in
+            let short = line_short begun (text ++ words) is in
             let l = length-append text words in
             let h = long.1 in
             omega (arith, short, l, h),
       )
 ]
 
-pub no_line_more : (is_begun : Bool) (text more : List ℕ) → IsNoLine is_begun text
-    → IsNoLine is_begun (text ++ more)
-no_line_more is_begun text more (inl (words, rest, split, wrong)) =
+pub no_line_more : (begun : Option Profile) (text more : List ℕ) → IsNoLine begun text
+    → IsNoLine begun (text ++ more)
+no_line_more begun text more (inl (words, rest, split, wrong)) =
     inl (words, rest ++ more, split_more text more words rest split, wrong)
-no_line_more is_begun text more (inr long) = long_more is_begun text more long
+no_line_more begun text more (inr long) = long_more begun text more long
 
-held_more : (is_broken is_begun : Bool) (rest held piece kept : List ℕ)
-    → MatchBool is_broken (IsNoLine is_begun rest) (rest ≡ held)
+held_more : (is_broken : Bool) (begun : Option Profile) (rest held piece kept : List ℕ)
+    → MatchBool is_broken (IsNoLine begun rest) (rest ≡ held)
     → (is_broken ≡ false → kept ≡ held ++ piece)
-    → MatchBool is_broken (IsNoLine is_begun (rest ++ piece)) (rest ++ piece ≡ kept)
-held_more true is_begun rest held piece kept holds is = no_line_more is_begun rest piece holds
-held_more false is_begun rest held piece kept holds is = ap (λ t. t ++ piece) holds ∙ sym (is refl)
+    → MatchBool is_broken (IsNoLine begun (rest ++ piece)) (rest ++ piece ≡ kept)
+held_more true begun rest held piece kept holds is = no_line_more begun rest piece holds
+held_more false begun rest held piece kept holds is = ap (λ t. t ++ piece) holds ∙ sym (is refl)
 
 kept_whole : (is_broken : Bool) (held piece : List ℕ) → is_broken ≡ false
     → (if is_broken then [] else held ++ piece) ≡ held ++ piece
@@ -103,7 +104,7 @@ feed_goes_on text piece taken r has = record {
   text_is = ap (λ t. t ++ piece) has.text_is ∙ append_assoc (taken_text taken) has.rest piece;
   offset_is = has.offset_is;
   begun = has.begun;
-  holds = held_more r.is_broken r.is_begun has.rest r.held piece
+  holds = held_more r.is_broken r.begun has.rest r.held piece
       (if r.is_broken then [] else r.held ++ piece) has.holds (kept_whole r.is_broken r.held piece);
 }
 
@@ -117,20 +118,23 @@ on_ok_goes_on (Err x) piece old new e = tt
 
 -- ---- a line that is taken
 
-abbrev pub whole_reader : List ℕ → ℕ → Bool → Bool → Reading
-whole_reader held offset is_begun may_feed = record {
+some_one : (a b : Profile) → Some a ≡ Some b → a ≡ b
+some_one a b e = cc
+
+abbrev pub whole_reader : List ℕ → ℕ → Option Profile → Bool → Reading
+whole_reader held offset begun may_feed = record {
   held = held;
   offset = offset;
-  is_begun =
-      is_begun;
+  begun = begun;
   is_broken = false;
   may_feed = may_feed;
 }
 
-fits_push : (list : List Entry) (e : Entry) → AllByRecursion EntryFits list → EntryFits e
-    → AllByRecursion EntryFits (list ++ e ∷ [])
-fits_push [] e h fits = (fits, tt)
-fits_push (x ∷ xs) e h fits = (h.0, fits_push xs e h.1 fits)
+fits_push : (profile : Profile) (list : List Entry) (e : Entry)
+    → AllByRecursion (EntryFits profile) list → EntryFits profile e
+    → AllByRecursion (EntryFits profile) (list ++ e ∷ [])
+fits_push profile [] e h fits = (fits, tt)
+fits_push profile (x ∷ xs) e h fits = (h.0, fits_push profile xs e h.1 fits)
 
 module _ (lines : List ℕ) (offset len : ℕ) (may_feed : Bool) (below : len < length lines)
     (split : SplitsAt 10 lines (take len lines) (drop (len + 1) lines)) where
@@ -145,44 +149,46 @@ module _ (lines : List ℕ) (offset len : ℕ) (may_feed : Bool) (below : len < 
         omega (arith, l, w, a),
       )
 
-  pub entry_goes_on : (text : List ℕ) (taken : Taken) (e : Entry) → EntryFits e
-      → take len lines ≡ entry_words e
-      → HasRead text taken (whole_reader lines offset true may_feed)
+  pub entry_goes_on : (text : List ℕ) (taken : Taken) (profile : Profile) (e : Entry)
+      → EntryFits profile e → take len lines ≡ entry_words profile e
+      → HasRead text taken (whole_reader lines offset (Some profile) may_feed)
       → HasRead text (taken_with (nexts.Entry e) taken)
-      (whole_reader (drop (len + 1) lines) (offset + (len + 1)) true false)
-  entry_goes_on text None e fits is has = let wrong = has.begun in cc
-  entry_goes_on text (Some (place, list)) e fits is has =
-      let l = line_is (entry_words e) is in
-      let pushed = flat_map_more entry_line (head_line place) list e in
-      let front = journal_text place list in
-      let len_front = length-append front (entry_line e) in
+      (whole_reader (drop (len + 1) lines) (offset + (len + 1)) (Some profile) false)
+  entry_goes_on text None profile e fits is has = let wrong = has.begun in cc
+  entry_goes_on text (Some (started, place, list)) profile e fits is has =
+      let same : profile ≡ started = some_one profile started has.begun in
+      let fits' : EntryFits started e = subst (λ p. EntryFits p e) same fits in
+      let l = line_is (entry_words started e) (is ∙ ap (λ p. entry_words p e) same) in
+      let pushed = flat_map_more (entry_line started) (head_line started place) list e in
+      let front = journal_text started place list in
+      let len_front = length-append front (entry_line started e) in
       let whole = ap length pushed in
       let at = has.offset_is in
       let size = l.1 in
       record {
         rest = drop (len + 1) lines;
-        fits = (has.fits.0, fits_push list e has.fits.1 fits);
+        fits = (has.fits.0, fits_push started list e has.fits.1 fits');
         text_is =
             has.text_is ∙ ap (λ t. front ++ t) (has.holds ∙ l.0)
-            ∙ sym (append_assoc front (entry_line e) (drop (len + 1) lines))
+            ∙ sym (append_assoc front (entry_line started e) (drop (len + 1) lines))
             ∙ ap (λ t. t ++ drop (len + 1) lines) pushed;
         offset_is = ap (λ n. n + (len + 1)) at ∙ ap (λ n. length front + n) (sym size)
             ∙ sym len_front ∙ whole;
-        begun = refl;
+        begun = has.begun;
         holds = refl;
       }
 
-  pub head_goes_on : (text : List ℕ) (taken : Taken) (place : ℕ) → PlaceFits place
-      → take len lines ≡ head_words place
-      → HasRead text taken (whole_reader lines offset false may_feed)
-      → HasRead text (taken_with (nexts.Head place) taken)
-      (whole_reader (drop (len + 1) lines) (offset + (len + 1)) true false)
-  head_goes_on text (Some t) place fits is has = let wrong = has.begun in cc
-  head_goes_on text None place fits is has =
-      let l = line_is (head_words place) is in
+  pub head_goes_on : (text : List ℕ) (taken : Taken) (profile : Profile) (place : ℕ)
+      → PlaceFits place → take len lines ≡ head_words profile place
+      → HasRead text taken (whole_reader lines offset None may_feed)
+      → HasRead text (taken_with (nexts.Head profile place) taken)
+      (whole_reader (drop (len + 1) lines) (offset + (len + 1)) (Some profile) false)
+  head_goes_on text (Some t) profile place fits is has = let wrong = has.begun in cc
+  head_goes_on text None profile place fits is has =
+      let l = line_is (head_words profile place) is in
       let at = has.offset_is in
       let size = l.1 in
-      let nil = append-nil (head_line place) in
+      let nil = append-nil (head_line profile place) in
       record {
         rest = drop (len + 1) lines;
         fits = (fits, tt);
@@ -193,13 +199,19 @@ module _ (lines : List ℕ) (offset len : ℕ) (may_feed : Bool) (below : len < 
       }
 
   -- the first line is no head
-  pub head_wrong : ((place : ℕ) → ¬ (PlaceFits place × (take len lines ≡ head_words place)))
-      → IsNoLine false lines
-  head_wrong none = inl (take len lines, drop (len + 1) lines, split, λ is. none is.0 (is.1, is.2))
+  pub head_wrong : ((head : Profile × ℕ)
+      → ¬ (PlaceFits head.1 × (take len lines ≡ head_words head.0 head.1))) → IsNoLine None lines
+  head_wrong none = inl (
+    take len lines,
+    drop (len + 1) lines,
+    split,
+    λ is. none (is.0, is.1) (is.2, is.3),
+  )
 
   -- the first line is no entry
-  pub entry_wrong : ((e : Entry) → ¬ IsEntry (take len lines) e) → IsNoLine true lines
-  entry_wrong none = inl (
+  pub entry_wrong : (profile : Profile)
+      → ((e : Entry) → ¬ IsEntry profile (take len lines) e) → IsNoLine (Some profile) lines
+  entry_wrong profile none = inl (
     take len lines,
     drop (len + 1) lines,
     split,
@@ -209,123 +221,126 @@ module _ (lines : List ℕ) (offset len : ℕ) (may_feed : Bool) (below : len < 
 
 -- ---- a reader that breaks
 
-pub breaks : (held : List ℕ) (offset : ℕ) (is_begun may_feed : Bool) → IsNoLine is_begun held
+pub breaks : (held : List ℕ) (offset : ℕ) (begun : Option Profile) (may_feed : Bool) → IsNoLine begun held
     → (text : List ℕ) (taken : Taken)
-    → HasRead text taken (whole_reader held offset is_begun may_feed)
-    → HasRead text taken (broken (whole_reader held offset is_begun may_feed))
-breaks held offset is_begun may_feed wrong text taken has = record {
+    → HasRead text taken (whole_reader held offset begun may_feed)
+    → HasRead text taken (broken (whole_reader held offset begun may_feed))
+breaks held offset begun may_feed wrong text taken has = record {
   rest = has.rest;
   fits = has.fits;
   text_is = has.text_is;
   offset_is = has.offset_is;
   begun = has.begun;
-  holds = subst (IsNoLine is_begun) (sym has.holds) wrong;
+  holds = subst (IsNoLine begun) (sym has.holds) wrong;
 }
 
-pub stops_there : (held : List ℕ) (offset : ℕ) (is_begun may_feed : Bool) → IsNoLine is_begun held
+pub stops_there : (held : List ℕ) (offset : ℕ) (begun : Option Profile) (may_feed : Bool) → IsNoLine begun held
     → (text : List ℕ) (taken : Taken)
-    → HasRead text taken (whole_reader held offset is_begun may_feed) → StopsAt text offset
-stops_there held offset is_begun may_feed wrong text taken has = record {
+    → HasRead text taken (whole_reader held offset begun may_feed) → StopsAt text offset
+stops_there held offset begun may_feed wrong text taken has = record {
   taken = taken;
   rest = has.rest;
   fits = has.fits;
   text_is = has.text_is;
   offset_is = has.offset_is;
   stops = inl (subst (λ b. IsNoLine b has.rest) has.begun
-      (subst (IsNoLine is_begun) (sym has.holds) wrong));
+      (subst (IsNoLine begun) (sym has.holds) wrong));
 }
 
 -- ---- the calls, by what they found
 
-abbrev pub reader_with : List ℕ → ℕ → Bool → Bool → Bool → Reading
-reader_with held offset is_begun is_broken may_feed =
+abbrev pub reader_with : List ℕ → ℕ → Option Profile → Bool → Bool → Reading
+reader_with held offset begun is_broken may_feed =
     record {
       held = held;
       offset = offset;
-      is_begun = is_begun;
+      begun = begun;
       is_broken = is_broken;
       may_feed =
           may_feed;
     }
 
-module _ (lines : List ℕ) (offset : ℕ) (is_begun is_broken may_feed : Bool) (self : Reading)
-    (self_is : reader_with lines offset is_begun is_broken may_feed ≡ self)
+module _ (lines : List ℕ) (offset : ℕ) (begun : Option Profile) (is_broken may_feed : Bool) (self : Reading)
+    (self_is : reader_with lines offset begun is_broken may_feed ≡ self)
     (whole : is_broken ≡ false)
   where
-    abbrev state : Bool → Bool → Reading
+    abbrev state : Option Profile → Bool → Reading
     state b k = reader_with lines offset b k may_feed
 
-    was : (b : Bool) → is_begun ≡ b → state b false ≡ self
-    was b begun = ap (λ x. state x false) (sym begun) ∙ ap (λ x. state is_begun x) (sym whole)
+    was : (b : Option Profile) → begun ≡ b → state b false ≡ self
+    was b same = ap (λ x. state x false) (sym same) ∙ ap (λ x. state begun x) (sym whole)
         ∙ self_is
 
-    module _ (after slice : List ℕ) (len : ℕ) (new : Reading)
+    module _ (after slice : List ℕ) (len : ℕ) (profile : Profile) (new : Reading)
         (same : after ≡ lines) (sliced : slice ≡ after)
         (line_at : (len < length lines) × SplitsAt 10 lines (take len lines) (drop (len + 1) lines))
-        (new_is : new ≡ reader_with (drop (len + 1) after) (offset + (len + 1)) true is_broken
-        false)
+        (new_is : new ≡ reader_with (drop (len + 1) after) (offset + (len + 1)) (Some profile)
+        is_broken false)
       where
-        is_now : whole_reader (drop (len + 1) lines) (offset + (len + 1)) true false ≡ new
+        is_now : whole_reader (drop (len + 1) lines) (offset + (len + 1)) (Some profile) false ≡ new
         is_now =
-            ap (λ k. reader_with (drop (len + 1) lines) (offset + (len + 1)) true k false)
+            ap (λ k. reader_with (drop (len + 1) lines) (offset + (len + 1)) (Some profile) k false)
             (sym whole)
-            ∙ ap (λ l. reader_with (drop (len + 1) l) (offset + (len + 1)) true is_broken false)
+            ∙ ap (λ l. reader_with (drop (len + 1) l) (offset + (len + 1)) (Some profile) is_broken
+            false)
             (sym same) ∙ sym new_is
 
         words_are : take len lines ≡ take len slice
         words_are = ap (take len) (sym same ∙ sym sliced)
 
-        pub entry_taken : is_begun ≡ true → (e : Entry) → IsEntry (take len slice) e
+        pub entry_taken : begun ≡ Some profile → (e : Entry) → IsEntry profile (take len slice) e
             → (text : List ℕ) (taken : Taken) → HasRead text taken self
             → HasRead text (taken_with (nexts.Entry e) taken) new
-        entry_taken begun e is text taken has =
+        entry_taken started e is text taken has =
             subst (HasRead text (taken_with (nexts.Entry e) taken)) is_now
-            (entry_goes_on lines offset len may_feed line_at.0 line_at.1 text taken e is.fits
-            (words_are ∙ is.words) (subst (HasRead text taken) (sym (was true begun)) has))
+            (entry_goes_on lines offset len may_feed line_at.0 line_at.1 text taken profile e
+            is.fits (words_are ∙ is.words)
+            (subst (HasRead text taken) (sym (was (Some profile) started)) has))
 
-        pub head_taken : is_begun ≡ false → (place : ℕ)
-            → PlaceFits place × (take len slice ≡ head_words place)
+        pub head_taken : begun ≡ None → (place : ℕ)
+            → PlaceFits place × (take len slice ≡ head_words profile place)
             → (text : List ℕ) (taken : Taken) → HasRead text taken self
-            → HasRead text (taken_with (nexts.Head place) taken) new
-        head_taken begun place is text taken has =
-            subst (HasRead text (taken_with (nexts.Head place) taken)) is_now
-            (head_goes_on lines offset len may_feed line_at.0 line_at.1 text taken place is.0
-            (words_are ∙ is.1) (subst (HasRead text taken) (sym (was false begun)) has))
+            → HasRead text (taken_with (nexts.Head profile place) taken) new
+        head_taken started place is text taken has =
+            subst (HasRead text (taken_with (nexts.Head profile place) taken)) is_now
+            (head_goes_on lines offset len may_feed line_at.0 line_at.1 text taken profile place
+            is.0 (words_are ∙ is.1) (subst (HasRead text taken) (sym (was None started)) has))
 
     -- what is no head
     pub no_head_there : (after slice : List ℕ) (len : ℕ) → after ≡ lines → slice ≡ after
         → (len < length lines) × SplitsAt 10 lines (take len lines) (drop (len + 1) lines)
-        → is_begun ≡ false
-        → ((place : ℕ) → ¬ (PlaceFits place × (take len slice ≡ head_words place)))
-        → IsNoLine is_begun lines
-    no_head_there after slice len same sliced line_at begun none =
-        subst (λ b. IsNoLine b lines) (sym begun)
+        → begun ≡ None
+        → ((head : Profile × ℕ)
+        → ¬ (PlaceFits head.1 × (take len slice ≡ head_words head.0 head.1)))
+        → IsNoLine begun lines
+    no_head_there after slice len same sliced line_at started none =
+        subst (λ b. IsNoLine b lines) (sym started)
         (head_wrong lines offset len may_feed line_at.0 line_at.1
-        (λ place is. none place (is.0, ap (take len) (sliced ∙ same) ∙ is.1)))
+        (λ head is. none head (is.0, ap (take len) (sliced ∙ same) ∙ is.1)))
 
-    module _ (result : JournalNext) (wrong : IsNoLine is_begun lines)
+    module _ (result : JournalNext) (wrong : IsNoLine begun lines)
         (answer : result ≡ nexts.NotAJournal offset) where
       pub broken_no_line : IfNotAJournal result
-          (λ _. (self.is_broken ≡ true) ⊎ IsNoLine self.is_begun self.held)
+          (λ _. (self.is_broken ≡ true) ⊎ IsNoLine self.begun self.held)
       broken_no_line =
           subst (λ r. IfNotAJournal r (λ _. (self.is_broken ≡ true)
-          ⊎ IsNoLine self.is_begun self.held)) (sym answer)
-          (inr (subst (λ r. IsNoLine r.is_begun r.held) self_is wrong))
+          ⊎ IsNoLine self.begun self.held)) (sym answer)
+          (inr (subst (λ r. IsNoLine r.begun r.held) self_is wrong))
 
-      pub broken_reads : (new : Reading) → new ≡ broken (state is_begun is_broken)
+      pub broken_reads : (new : Reading) → new ≡ broken (state begun is_broken)
           → (text : List ℕ) (taken : Taken) → HasRead text taken self
           → HasRead text (taken_with result taken) new
       broken_reads new new_is text taken has =
           let kept : taken_with result taken ≡ taken = ap (λ r. taken_with r taken) answer in
           subst (λ t. HasRead text t new) (sym kept)
           (subst (HasRead text taken) (sym new_is)
-          (breaks lines offset is_begun may_feed wrong text taken
-          (subst (HasRead text taken) (sym (was is_begun refl)) has)))
+          (breaks lines offset begun may_feed wrong text taken
+          (subst (HasRead text taken) (sym (was begun refl)) has)))
 
       pub broken_stops : IfNotAJournal result
           (λ at. (text : List ℕ) (taken : Taken) → HasRead text taken self → StopsAt text at)
       broken_stops =
           subst (λ r. IfNotAJournal r (λ at. (text : List ℕ) (taken : Taken)
           → HasRead text taken self → StopsAt text at)) (sym answer)
-          (λ text taken has. stops_there lines offset is_begun may_feed wrong text taken
-          (subst (HasRead text taken) (sym (was is_begun refl)) has))
+          (λ text taken has. stops_there lines offset begun may_feed wrong text taken
+          (subst (HasRead text taken) (sym (was begun refl)) has))

@@ -1,7 +1,8 @@
 -- A checker that has taken a list has taken it with one entry more.
 use Rattle.std.proofs.Common.{arith, ◌≡◌, ℕ, ◌+◌, List, [], ◌∷◌, ◌++◌, length, refl, sym, ap, subst, length-append}
 use Rattle.session_machine.specs.declared.entry.Entry.{Entry}
-use Rattle.session_machine.specs.History.{IsLegal, nothing}
+use Rattle.session_machine.specs.declared.profile.Profile.{Profile}
+use Rattle.session_machine.specs.History.{IsLegalIn, nothing}
 use Rattle.journal_text.specs.declared.judgement.Judgement.{Judgement}
 use Rattle.journal_text.specs.declared.judgement.Judgement.TheVariants.{Legal, Illegal}
 use Rattle.journal_text.specs.declared.judgement.Why.{Why}
@@ -25,32 +26,38 @@ pub taken-behind : (c : Checked) (list : List Entry) (e : Entry) (place : ℕ) (
     }) (list ++ e ∷ [])
 taken-behind c list e place why is has = record {
   taken = one_more list e c.taken has.taken;
-  judges = subst (Judges c.first (list ++ e ∷ [])) (sym is)
-      (illegal-stays c.first list (e ∷ []) place why (subst (Judges c.first list) is has.judges));
+  judges = subst (Judges c.known.profile c.first (list ++ e ∷ [])) (sym is)
+      (illegal-stays c.known.profile c.first list (e ∷ []) place why
+      (subst (Judges c.known.profile c.first list) is has.judges));
   knows = subst (λ v. KnowsWhileLegal v c.known (list ++ e ∷ [])) (sym is) tt;
 }
 
-legal-parts : (first : ℕ) (list : List Entry) (known : Known) (verdict : Judgement)
+legal-parts : (profile : Profile) (first : ℕ) (list : List Entry) (known : Known) (verdict : Judgement)
     → ((place : ℕ) (why : Why) → verdict ≡ Illegal place why → ⊥)
-    → Judges first list verdict → KnowsWhileLegal verdict known list
-    → IsLegal nothing 0 list × Knows known list
-legal-parts first list known (Legal entries) apart judges knows = (judges.0, knows)
-legal-parts first list known (Illegal place why) apart judges knows = absurd (apart place why refl)
+    → Judges profile first list verdict → KnowsWhileLegal verdict known list
+    → IsLegalIn profile nothing 0 list × Knows known list
+legal-parts profile first list known (Legal entries) apart judges knows = (judges.0, knows)
+legal-parts profile first list known (Illegal place why) apart judges knows = absurd (apart place why refl)
 
 -- what the next entry's judgement says
 abbrev pub JudgesNext : ℕ → ℕ → Known → Known → Entry → Judgement → Type 0
 JudgesNext place taken old new e judgement = (first : ℕ) (before : List Entry)
-    → place ≡ first + length before → taken ≡ length before → IsLegal nothing 0 before
+    → place ≡ first + length before → taken ≡ length before → IsLegalIn old.profile nothing 0 before
     → Knows old before
-    → Judges first (before ++ e ∷ []) judgement × KnowsWhileLegal judgement new (before ++ e ∷ [])
+    → Judges old.profile first (before ++ e ∷ []) judgement × KnowsWhileLegal judgement new (before ++ e ∷ [])
 
 -- a legal one has the judgement of its next entry
 pub taken-next : (c : Checked) (list : List Entry) (e : Entry) (known : Known)
     (judgement : Judgement) → ((place : ℕ) (why : Why) → c.verdict ≡ Illegal place why → ⊥)
-    → JudgesNext (c.first + c.taken) c.taken c.known known e judgement → HasTaken c list
+    → JudgesNext (c.first + c.taken) c.taken c.known known e judgement
+    → known.profile ≡ c.known.profile → HasTaken c list
     → HasTaken (record { first = c.first; taken = c.taken + 1; verdict = judgement; known = known })
     (list ++ e ∷ [])
-taken-next c list e known judgement apart next has =
-    let parts = legal-parts c.first list c.known c.verdict apart has.judges has.knows in
+taken-next c list e known judgement apart next same has =
+    let parts = legal-parts c.known.profile c.first list c.known c.verdict apart has.judges has.knows in
     let judged = next c.first list (ap (λ n. c.first + n) has.taken) has.taken parts.0 parts.1 in
-    record { taken = one_more list e c.taken has.taken; judges = judged.0; knows = judged.1 }
+    record {
+      taken = one_more list e c.taken has.taken;
+      judges = subst (λ p. Judges p c.first (list ++ e ∷ []) judgement) (sym same) judged.0;
+      knows = judged.1;
+    }

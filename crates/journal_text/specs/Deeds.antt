@@ -7,6 +7,7 @@ use Rattle.asp_messages.specs.declared.request.Request.{Request}
 use Rattle.session_machine.specs.declared.entry.Deed.{Deed}
 use Rattle.session_machine.specs.declared.entry.Deed.TheVariants.{Asked, Expired, Looked}
 use Rattle.session_machine.specs.declared.item.Item.{Item}
+use Rattle.session_machine.specs.declared.profile.Profile.{Profile}
 use Rattle.session_machine.specs.Liveness.{ItemFits}
 use Rattle.session_machine.specs.Machine.{Circumstances, effect}
 use Rattle.session_machine.specs.History.{IsDead, after_reply}
@@ -35,14 +36,14 @@ IsRefusal KeeperFault = ⊤
 IsRefusal reply = ⊥
 
 -- the machine's own reply to a request where the session has this item
-abbrev pub own_reply : Option Item → ℕ → ℕ → Request → Reply
-own_reply old t drawn request = (effect old t drawn request.ask).0
+abbrev pub own_reply : Profile → Option Item → ℕ → ℕ → Request → Reply
+own_reply profile old t drawn request = (effect profile old t drawn request.ask).0
 
 -- the reply is none that the request may be given
-abbrev pub IsWrongThere : Option Item → Request → Circumstances → Reply → Why → Type 0
-IsWrongThere old request at reply why =
-    (why ≡ WrongReply (own_reply old at.moment at.drawn request) reply)
-    × IsWrongReply at.rose (own_reply old at.moment at.drawn request) reply
+abbrev pub IsWrongThere : Profile → Option Item → Request → Circumstances → Reply → Why → Type 0
+IsWrongThere profile old request at reply why =
+    (why ≡ WrongReply (own_reply profile old at.moment at.drawn request) reply)
+    × IsWrongReply at.rose (own_reply profile old at.moment at.drawn request) reply
 
 -- what is left is the new item, or nothing, and the item that was there is still to be removed
 abbrev pub IsLeft : Option Item → List ℕ → Item → Item → Left → Type 0
@@ -51,26 +52,26 @@ IsLeft after key old new left.Item = after ≡ Some new
 IsLeft after key old new (left.Nothing gone) = (after ≡ None) × (gone ≡ key) × (new ≡ old)
 
 -- what a request leaves of the item that is there, or why it may not have been answered so
-abbrev pub Leaves : Item → Item → Request → Circumstances → Reply → Left → Type 0
-Leaves old new request at reply (left.Wrong why) = IsWrongThere (Some old) request at reply why
-Leaves old new request at reply left =
-    IsRightReply at.rose (own_reply (Some old) at.moment at.drawn request) reply
-    × IsLeft (after_reply (Some old) at.moment at.drawn request.ask reply) request.key old new left
+abbrev pub Leaves : Profile → Item → Item → Request → Circumstances → Reply → Left → Type 0
+Leaves profile old new request at reply (left.Wrong why) = IsWrongThere profile (Some old) request at reply why
+Leaves profile old new request at reply left =
+    IsRightReply at.rose (own_reply profile (Some old) at.moment at.drawn request) reply
+    × IsLeft (after_reply profile (Some old) at.moment at.drawn request.ask reply) request.key old new left
 
 -- the deed may be done, and leaves the items so
-abbrev pub IsDone : List (List ℕ × Item) → List (List ℕ × Item) → Deed → Circumstances → Reply
+abbrev pub IsDone : Profile → List (List ℕ × Item) → List (List ℕ × Item) → Deed → Circumstances → Reply
     → Type 0
-IsDone old new (Asked request) at reply =
-    IsRightReply at.rose (own_reply (item_among old request.key) at.moment at.drawn request) reply
-    × ReplacesItem old new request.key (after_reply (item_among old request.key) at.moment at.drawn
+IsDone profile old new (Asked request) at reply =
+    IsRightReply at.rose (own_reply profile (item_among old request.key) at.moment at.drawn request) reply
+    × ReplacesItem old new request.key (after_reply profile (item_among old request.key) at.moment at.drawn
     request.ask reply)
-IsDone old new (Expired key) at reply = IsDead (item_among old key) at.moment
+IsDone profile old new (Expired key) at reply = IsDead (item_among old key) at.moment
     × ReplacesItem old new key None
-IsDone old new Looked at reply = IsRightReply at.rose Done reply × (new ≡ old)
+IsDone profile old new Looked at reply = IsRightReply at.rose Done reply × (new ≡ old)
 
 -- the deed may not be done
-abbrev pub IsBarred : List (List ℕ × Item) → Deed → Circumstances → Reply → Why → Type 0
-IsBarred old (Asked request) at reply why =
-    IsWrongThere (item_among old request.key) request at reply why
-IsBarred old (Expired key) at reply why = (why ≡ NotDue) × IsNotDead (item_among old key) at.moment
-IsBarred old Looked at reply why = (why ≡ WrongReply Done reply) × IsWrongReply at.rose Done reply
+abbrev pub IsBarred : Profile → List (List ℕ × Item) → Deed → Circumstances → Reply → Why → Type 0
+IsBarred profile old (Asked request) at reply why =
+    IsWrongThere profile (item_among old request.key) request at reply why
+IsBarred profile old (Expired key) at reply why = (why ≡ NotDue) × IsNotDead (item_among old key) at.moment
+IsBarred profile old Looked at reply why = (why ≡ WrongReply Done reply) × IsWrongReply at.rose Done reply

@@ -13,7 +13,7 @@ use crate::Why;
 use crate::replies::{is_refusal, wrong_reply};
 use asp_base::{Bytes, NoMemory};
 use asp_messages::{Ask, Reply, Request};
-use session_machine::{Change, Item, decide};
+use session_machine::{Change, Item, Profile, decide};
 use std::alloc::Global;
 use std::collections::BTreeMap;
 
@@ -64,6 +64,7 @@ fn change_there(alloc: Global, item: &mut Item, request: Request, change: Change
             fresh,
             holder,
             touched,
+            ends,
         } => {
             if body_of_request {
                 item.body = body_asked(alloc, ask);
@@ -72,6 +73,7 @@ fn change_there(alloc: Global, item: &mut Item, request: Request, change: Change
             item.fresh = fresh;
             item.holder = holder;
             item.touched = touched;
+            item.ends = ends;
             Left::Item
         }
     }
@@ -80,6 +82,7 @@ fn change_there(alloc: Global, item: &mut Item, request: Request, change: Change
 /// A request where the session has an item.
 fn ask_there(
     alloc: Global,
+    profile: Profile,
     item: &mut Item,
     request: Request,
     t: u64,
@@ -91,12 +94,12 @@ fn ask_there(
     requires request { RequestFits request }
     requires drawn { DrawFits request.ask drawn }
     requires item { ItemFits item.old }
-    ensures left { IfOk result (Leaves item.old item.new request
+    ensures left { IfOk result (Leaves profile item.old item.new request
         (record { moment = t; drawn = drawn; rose = rose }) reply) }
     ensures fits { ItemFits item.new }
     ensures err { OnErr result (item.new ≡ item.old) }
 {
-    let verdict = decide(Some(item), t, &request, drawn);
+    let verdict = decide(Some(item), t, &request, drawn, profile);
     let refused = is_refusal(&reply);
     if let Some(why) = wrong_reply(alloc, reply, verdict.kind, Some(item), rose)? {
         return Ok(Left::Wrong(why));
@@ -125,6 +128,7 @@ fn change_absent(
         fresh,
         holder,
         touched,
+        ends,
     } = change
     {
         let Request { key, ask } = request;
@@ -134,6 +138,7 @@ fn change_absent(
             fresh,
             holder,
             touched,
+            ends,
         };
         items.insert(key, item)?;
     }
@@ -143,6 +148,7 @@ fn change_absent(
 /// A request where the session has no item.
 fn ask_absent(
     alloc: Global,
+    profile: Profile,
     items: &mut BTreeMap<Bytes, Item>,
     request: Request,
     t: u64,
@@ -157,12 +163,12 @@ fn ask_absent(
     requires fits { ItemsFit items.old.entries }
     ensures asked { let at : Circumstances = record { moment = t; drawn = drawn; rose = rose } in
         IfOk result (λ why. MatchOption why
-        (IsDone items.old.entries items.new.entries (Asked request) at reply)
-        (IsBarred items.old.entries (Asked request) at reply)) }
+        (IsDone profile items.old.entries items.new.entries (Asked request) at reply)
+        (IsBarred profile items.old.entries (Asked request) at reply)) }
     ensures fits { ItemsFit items.new.entries }
     ensures err { OnErr result (items.new.entries ≡ items.old.entries) }
 {
-    let verdict = decide(None, t, &request, drawn);
+    let verdict = decide(None, t, &request, drawn, profile);
     let refused = is_refusal(&reply);
     let why = wrong_reply(alloc, reply, verdict.kind, None, rose)?;
     if why.is_none() && !refused {
@@ -174,6 +180,7 @@ fn ask_absent(
 /// A request, by one look-up of its item.
 pub fn ask(
     alloc: Global,
+    profile: Profile,
     items: &mut BTreeMap<Bytes, Item>,
     request: Request,
     t: u64,
@@ -187,15 +194,15 @@ pub fn ask(
     requires fits { ItemsFit items.old.entries }
     ensures asked { let at : Circumstances = record { moment = t; drawn = drawn; rose = rose } in
         IfOk result (λ why. MatchOption why
-        (IsDone items.old.entries items.new.entries (Asked request) at reply)
-        (IsBarred items.old.entries (Asked request) at reply)) }
+        (IsDone profile items.old.entries items.new.entries (Asked request) at reply)
+        (IsBarred profile items.old.entries (Asked request) at reply)) }
     ensures fits { ItemsFit items.new.entries }
     ensures err { OnErr result (items.new.entries ≡ items.old.entries) }
 {
     let Some(item) = items.get_mut(&request.key) else {
-        return ask_absent(alloc, items, request, t, drawn, rose, reply);
+        return ask_absent(alloc, profile, items, request, t, drawn, rose, reply);
     };
-    match ask_there(alloc, item, request, t, drawn, rose, reply)? {
+    match ask_there(alloc, profile, item, request, t, drawn, rose, reply)? {
         Left::Wrong(why) => Ok(Some(why)),
         Left::Item => Ok(None),
         Left::Nothing(key) => {

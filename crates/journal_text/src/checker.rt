@@ -8,12 +8,12 @@ ghost use Rattle.journal_text.specs.Judging.{Judges};
 use crate::Judgement;
 use crate::standing::Standing;
 use asp_base::NoMemory;
-use session_machine::Entry;
+use session_machine::{Entry, Profile};
 use std::alloc::Global;
 use std::marker::Model;
 
-/// It takes the entries of a list in turn, and judges whether they are a legal history from no
-/// items and no fault. It keeps the items that there are, and no entry.
+/// It takes the entries of a list in turn, and judges whether they are a legal history of its profile
+/// from no items and no fault. It keeps the items that there are, and no entry.
 #[derive(Debug, Drop)]
 pub struct Checker {
     alloc: Global,
@@ -41,12 +41,13 @@ impl Model for Checker {
 }
 
 impl Checker {
-    /// A checker that has taken no entry. The first that it takes has the place `first_place`,
-    /// below 2^63 - 1. It takes no memory.
-    pub fn new(alloc: Global, first_place: u64) -> Checker
+    /// A checker of this profile that has taken no entry. The first that it takes has the place
+    /// `first_place`, below 2^63 - 1. It takes no memory.
+    pub fn new(alloc: Global, profile: Profile, first_place: u64) -> Checker
         requires { first_place < 2 ^ 63 - 1 }
         ensures first { result.first ≡ first_place }
         ensures count { result.taken ≡ 0 }
+        ensures profile { result.known.profile ≡ profile }
         ensures taken { HasTaken result [] }
     {
         Checker {
@@ -54,7 +55,7 @@ impl Checker {
             first_place,
             taken: 0,
             verdict: Judgement::Legal { entries: 0 },
-            standing: Standing::new(alloc),
+            standing: Standing::new(alloc, profile),
         }
     }
 
@@ -70,6 +71,7 @@ impl Checker {
 
         ensures count { OnOk result (self.new.taken ≡ self.old.taken + 1) }
         ensures first { self.new.first ≡ self.old.first }
+        ensures profile { self.new.known.profile ≡ self.old.known.profile }
         ensures err { OnErr result (self.new ≡ self.old) }
     {
         if let Judgement::Illegal { .. } = self.verdict {
@@ -82,11 +84,18 @@ impl Checker {
         Ok(())
     }
 
+    /// The profile whose rules are checked.
+    pub fn profile(&self) -> Profile
+        ensures { result ≡ self.now.known.profile }
+    {
+        self.standing.profile()
+    }
+
     /// The judgement of the entries taken. It takes no memory.
     pub fn verdict(&self) -> &Judgement
         ensures verdict { result.now ≡ self.now.verdict }
         ensures judges { (list : List Entry) → HasTaken self.now list
-            → Judges self.now.first list result.now }
+            → Judges self.now.known.profile self.now.first list result.now }
     {
         &self.verdict
     }

@@ -1,8 +1,8 @@
 //! A reader of journals.
-ghost use Rattle.std.specs.Prelude.{◌≡◌, ◌⊎◌, ◌+◌, ◌-◌, ◌<◌, ◌≤◌, ◌^◌, ◌++◌, ◌↔◌, ℕ, List, [], true, false, length, take, drop, Option, Some, None, IsTrue, IsFalse, OnOk, OnErr, IfSome, IfNone, MatchOption};
+ghost use Rattle.std.specs.Prelude.{◌≡◌, ◌⊎◌, ◌+◌, ◌-◌, ◌<◌, ◌≤◌, ◌^◌, ◌++◌, ◌↔◌, ℕ, List, [], true, false, length, take, drop, Option, Some, None, IsTrue, IsFalse, OnOk, OnErr, IfSome, IfNone, IsSome, MatchOption};
 ghost use Rattle.plain_words.specs.Words.{HasNo, SplitsAt};
 ghost use Rattle.journal_text.specs.JournalText.{PlaceFits, EntryFits, head_words, entry_words, most_line};
-ghost use Rattle.journal_text.specs.Reading.{IsNoLine, Taken, IsJournalOf, StopsAt, Reading, most_piece, most_held, new_reader, fed, waiting, broken, TakesLine, HasRead};
+ghost use Rattle.journal_text.specs.Reading.{IsNoLine, Taken, IsJournalOf, StopsAt, Reading, most_piece, most_held, new_reader, fed, waiting, broken, TakesLine, TakesEntry, HasRead};
 ghost use Rattle.journal_text.specs.Next.{IfHead, IfEntry, IfNotAJournal, taken_with};
 
 use crate::MOST_LINE;
@@ -10,7 +10,7 @@ use crate::entry_words::read_entry;
 use crate::head_words::read_head;
 use asp_base::NoMemory;
 use held_lines::HeldLines;
-use session_machine::Entry;
+use session_machine::{Entry, Profile};
 use std::alloc::Global;
 use std::marker::Model;
 
@@ -22,6 +22,8 @@ pub const MOST_PIECE: usize = 16_384;
 pub enum JournalNext {
     /// The first line, which was taken.
     Head {
+        /// The profile of the journal.
+        profile: Profile,
         /// The place of the first entry, below 2^63 - 1.
         place: u64,
     },
@@ -44,7 +46,7 @@ pub struct JournalReader {
     alloc: Global,
     lines: HeldLines,
     offset: u64,
-    is_begun: bool,
+    begun: Option<Profile>,
     is_broken: bool,
     may_feed: bool,
 }
@@ -60,8 +62,7 @@ impl Model for JournalReader {
     ghost view = { λ r. record {
       held = r.lines;
       offset = r.offset;
-      is_begun =
-          r.is_begun;
+      begun = r.begun;
       is_broken = r.is_broken;
       may_feed = r.may_feed;
     } };
@@ -80,7 +81,7 @@ impl JournalReader {
             alloc,
             lines: HeldLines::new(alloc),
             offset: 0,
-            is_begun: false,
+            begun: None,
             is_broken: false,
             may_feed: true,
         }
@@ -121,13 +122,13 @@ impl JournalReader {
         Ok(())
     }
 
-    fn take(&mut self, len: usize)
+    fn take(&mut self, len: usize, profile: Profile)
         requires { len < length self.old.held }
         ensures { self.new ≡ record {
           held = drop (len + 1) self.old.held;
           offset =
               self.old.offset + (len + 1);
-          is_begun = true;
+          begun = Some profile;
           is_broken = self.old.is_broken;
           may_feed =
               false;
@@ -135,7 +136,7 @@ impl JournalReader {
     {
         self.lines.take_line(len);
         self.offset += len as u64 + 1;
-        self.is_begun = true;
+        self.begun = Some(profile);
         self.may_feed = false;
     }
 
@@ -153,13 +154,12 @@ impl JournalReader {
 
     /// The first line of the bytes held, which is taken.
     pub fn next(&mut self) -> JournalNext
-        // The line with the place, where nothing was taken before.
-        ensures head { IfHead result (λ place. PlaceFits place × IsFalse self.old.is_begun
-            × TakesLine (head_words place) self.old self.new) }
+        // The line with the profile and the place, where nothing was taken before.
+        ensures head { IfHead result (λ profile place. PlaceFits place × (self.old.begun ≡ None)
+            × TakesLine profile (head_words profile place) self.old self.new) }
 
         // The line of an entry, behind that.
-        ensures entry { IfEntry result (λ e. EntryFits e × IsTrue self.old.is_begun
-            × TakesLine (entry_words e) self.old self.new) }
+        ensures entry { IfEntry result (λ e. TakesEntry e self.old self.new) }
 
         // No line is whole, and there is room for more bytes.
         ensures more { result ≡ JournalNext.More → self.new ≡ waiting self.old }
@@ -171,7 +171,7 @@ impl JournalReader {
         ensures offset { IfNotAJournal result (λ offset. offset ≡ self.old.offset) }
         ensures broken { IfNotAJournal result (λ _. self.new ≡ broken self.old) }
         ensures no_line { IfNotAJournal result
-            (λ _. IsTrue self.old.is_broken ⊎ IsNoLine self.old.is_begun self.old.held) }
+            (λ _. IsTrue self.old.is_broken ⊎ IsNoLine self.old.begun self.old.held) }
         ensures stays { IsTrue self.old.is_broken
             → result ≡ JournalNext.NotAJournal self.old.offset }
 
@@ -199,23 +199,22 @@ impl JournalReader {
             return JournalNext::More;
         };
         let words = &self.lines.as_slice()[..len];
-        if self.is_begun {
-            match read_entry(self.alloc, words) {
+        match self.begun {
+            Some(profile) => match read_entry(self.alloc, profile, words) {
                 Ok(Some(entry)) => {
-                    self.take(len);
+                    self.take(len, profile);
                     JournalNext::Entry(entry)
                 }
                 Ok(None) => self.break_off(),
                 Err(NoMemory) => JournalNext::NoMemory,
-            }
-        } else {
-            match read_head(words) {
-                Some(place) => {
-                    self.take(len);
-                    JournalNext::Head { place }
+            },
+            None => match read_head(words) {
+                Some((profile, place)) => {
+                    self.take(len, profile);
+                    JournalNext::Head { profile, place }
                 }
                 None => self.break_off(),
-            }
+            },
         }
     }
 
@@ -224,7 +223,7 @@ impl JournalReader {
     /// the empty text. The caller has heard `More` or `NotAJournal` since the last piece.
     pub fn finish(&self) -> Option<u64>
         requires { IsTrue self.now.may_feed }
-        ensures whole { result ≡ None ↔ (IsFalse self.now.is_broken × IsTrue self.now.is_begun
+        ensures whole { result ≡ None ↔ (IsFalse self.now.is_broken × IsSome self.now.begun
             × (self.now.held ≡ [])) }
         ensures offset { IfSome result (λ offset. offset ≡ self.now.offset) }
         ensures journal { IfNone result ((text : List ℕ) (taken : Taken)
@@ -232,7 +231,7 @@ impl JournalReader {
         ensures stops { IfSome result (λ offset. (text : List ℕ) (taken : Taken)
             → HasRead text taken self.now → StopsAt text offset) }
     {
-        if !self.is_broken && self.is_begun && self.lines.as_slice().is_empty() {
+        if !self.is_broken && self.begun.is_some() && self.lines.as_slice().is_empty() {
             return None;
         }
         Some(self.offset)

@@ -3,8 +3,9 @@ ghost use Rattle.std.specs.Prelude.{◌≡◌, ◌⊎◌, ℕ, ◌+◌, ◌-◌,
 ghost use Rattle.asp_messages.specs.declared.reply.Reply.TheVariants.{Done};
 ghost use Rattle.session_machine.specs.declared.entry.Deed.TheVariants.{Expired};
 ghost use Rattle.session_machine.specs.declared.entry.Entry.{Entry};
-ghost use Rattle.session_machine.specs.History.{DeedFits, IsFormed, IsLegal, nothing};
+ghost use Rattle.session_machine.specs.History.{DeedFits, IsFormed, IsLegalIn, nothing};
 ghost use Rattle.session_machine.specs.Machine.{Circumstances};
+ghost use Rattle.session_machine.specs.Profiles.{newest};
 ghost use Rattle.journal_text.specs.Checking.{Knows, KnowsWhileLegal};
 ghost use Rattle.journal_text.specs.Deeds.{IsBarred, IsDone, ItemsFit};
 ghost use Rattle.journal_text.specs.Judging.{IsReason, Judges};
@@ -14,7 +15,7 @@ use crate::replies::{has_risen, wrong_reply};
 use crate::{Judgement, Why};
 use asp_base::{Bytes, NoMemory};
 use asp_messages::Reply;
-use session_machine::{Deed, Entry, Item, Kind, live};
+use session_machine::{Deed, Entry, Item, Kind, Profile, live};
 use std::alloc::Global;
 use std::collections::BTreeMap;
 use std::marker::Model;
@@ -23,6 +24,7 @@ use std::marker::Model;
 /// greatest cookie drawn.
 #[derive(Debug, Drop)]
 pub struct Standing {
+    profile: Profile,
     items: BTreeMap<Bytes, Item>,
     faults: u64,
     above: u64,
@@ -34,17 +36,23 @@ impl Model for Standing {
 
     ghost Value = { Known };
 
-    ghost view = { λ s. record { count = s.faults; draw = s.above; items = s.items.entries } };
+    ghost view = { λ s. record {
+      profile = s.profile;
+      count = s.faults;
+      draw = s.above;
+      items = s.items.entries;
+    } };
 
     ghost invariant = { λ s. ItemsFit s.items.entries };
 }
 
-/// An expiry: the item that had expired is removed.
+/// An expiry: the item that had expired is removed. It is the same in every profile.
 fn expire(items: &mut BTreeMap<Bytes, Item>, key: &Bytes, t: u64) -> Option<Why>
     requires fits { ItemsFit items.old.entries }
     ensures expired { let at : Circumstances = record { moment = t; drawn = 0; rose = false } in
-        MatchOption result (IsDone items.old.entries items.new.entries (Expired key.now) at Done)
-        (IsBarred items.old.entries (Expired key.now) at Done) }
+        MatchOption result
+        (IsDone newest items.old.entries items.new.entries (Expired key.now) at Done)
+        (IsBarred newest items.old.entries (Expired key.now) at Done) }
     ensures fits { ItemsFit items.new.entries }
 {
     match items.remove(key) {
@@ -56,6 +64,7 @@ fn expire(items: &mut BTreeMap<Bytes, Item>, key: &Bytes, t: u64) -> Option<Why>
 /// The deed of the entry that comes next. `rose` is whether the count of faults rose with it.
 fn act(
     alloc: Global,
+    profile: Profile,
     items: &mut BTreeMap<Bytes, Item>,
     deed: Deed,
     t: u64,
@@ -68,13 +77,13 @@ fn act(
     requires fits { ItemsFit items.old.entries }
     ensures acted { let at : Circumstances = record { moment = t; drawn = drawn; rose = rose } in
         IfOk result (λ why. MatchOption why
-        (IsDone items.old.entries items.new.entries deed at reply)
-        (IsBarred items.old.entries deed at reply)) }
+        (IsDone profile items.old.entries items.new.entries deed at reply)
+        (IsBarred profile items.old.entries deed at reply)) }
     ensures fits { ItemsFit items.new.entries }
     ensures err { OnErr result (items.new.entries ≡ items.old.entries) }
 {
     match deed {
-        Deed::Asked(request) => ask(alloc, items, request, t, drawn, rose, reply),
+        Deed::Asked(request) => ask(alloc, profile, items, request, t, drawn, rose, reply),
         Deed::Expired(key) => Ok(expire(items, &key, t)),
         Deed::Looked => wrong_reply(alloc, reply, Kind::Done, None, rose),
     }
@@ -89,24 +98,36 @@ fn raises(above: u64, drawn: u64) -> bool
 }
 
 impl Standing {
-    /// No item, no fault and no cookie. It takes no memory.
-    pub fn new(alloc: Global) -> Standing
-        ensures { Knows result [] }
+    /// No item, no fault and no cookie, in this profile. It takes no memory.
+    pub fn new(alloc: Global, profile: Profile) -> Standing
+        ensures knows { Knows result [] }
+        ensures profile { result.profile ≡ profile }
     {
         Standing {
+            profile,
             items: BTreeMap::new(alloc),
             faults: 0,
             above: 0,
         }
     }
 
+    /// The profile whose rules are checked.
+    pub fn profile(&self) -> Profile
+        ensures { result ≡ self.now.profile }
+    {
+        self.profile
+    }
+
     /// Why the entry may not stand next, or `None` where it may, which is then known too.
     fn admit(&mut self, alloc: Global, entry: Entry) -> Result<Option<Why>, NoMemory>
         requires { IsFormed entry }
-        ensures admitted { (before : List Entry) → IsLegal nothing 0 before → Knows self.old before
+        ensures admitted { (before : List Entry) → IsLegalIn self.old.profile nothing 0 before
+            → Knows self.old before
             → IfOk result (λ why. MatchOption why
-            (IsLegal nothing 0 (before ++ entry ∷ []) × Knows self.new (before ++ entry ∷ []))
-            (IsReason before entry)) }
+            (IsLegalIn self.old.profile nothing 0 (before ++ entry ∷ [])
+            × Knows self.new (before ++ entry ∷ []))
+            (IsReason self.old.profile before entry)) }
+        ensures profile { self.new.profile ≡ self.old.profile }
         ensures err { OnErr result (self.new ≡ self.old) }
     {
         let Entry {
@@ -130,7 +151,7 @@ impl Standing {
             }));
         }
         let rose = has_risen(self.faults, faults);
-        match act(alloc, &mut self.items, deed, moment, drawn, rose, reply)? {
+        match act(alloc, self.profile, &mut self.items, deed, moment, drawn, rose, reply)? {
             Some(why) => Ok(Some(why)),
             None => {
                 self.faults = faults;
@@ -151,9 +172,11 @@ impl Standing {
         requires entry { IsFormed entry }
         requires few { taken < 2 ^ 63 - 1 }
         ensures judged { (first : ℕ) (before : List Entry) → place ≡ first + length before
-            → taken ≡ length before → IsLegal nothing 0 before → Knows self.old before
-            → IfOk result (λ judgement. Judges first (before ++ entry ∷ []) judgement
+            → taken ≡ length before → IsLegalIn self.old.profile nothing 0 before
+            → Knows self.old before
+            → IfOk result (λ judgement. Judges self.old.profile first (before ++ entry ∷ []) judgement
             × KnowsWhileLegal judgement self.new (before ++ entry ∷ [])) }
+        ensures profile { self.new.profile ≡ self.old.profile }
         ensures err { OnErr result (self.new ≡ self.old) }
     {
         match self.admit(alloc, entry)? {

@@ -1,17 +1,18 @@
 //! Journals written: the first line, and a line for each entry.
-ghost use Rattle.std.specs.Prelude.{◌≡◌, ◌++◌, take, OnOk, OnErr, is_ok, decimal, if◌then◌else◌};
+ghost use Rattle.std.specs.Prelude.{◌≡◌, ◌++◌, take, OnOk, OnErr, is_ok, codes, decimal, if◌then◌else◌};
 ghost use Rattle.hex.specs.Hex.{encode_lower};
 ghost use Rattle.asp_messages.specs.Appending.{Extends};
 ghost use Rattle.asp_messages.specs.PlainSpelling.{◌then◌, bytes_word};
 ghost use Rattle.session_machine.specs.History.{IsFormed};
 ghost use Rattle.plain_words.specs.Words.{AreBytes};
-ghost use Rattle.journal_text.specs.JournalText.{PlaceFits, EntryFits, DeedHasBytes, AskHasBytes, ReplyHasBytes, head_line, entry_line, number_words, key_word, deed_words};
+ghost use Rattle.journal_text.specs.JournalText.{PlaceFits, EntryFits, DeedHasBytes, AskHasBytes, ReplyHasBytes, TellsOnly, head_start, head_line, entry_line, number_words, key_word, deed_words, reply_words};
 
 use asp_base::{Bytes, NoMemory};
 use asp_messages::{
-    Ask, Reply, or_undo, push, push_hex, push_number, spell_ask, spell_reply, then_number,
+    Ask, Reply, or_undo, push, push_hex, push_number, spell_ask, spell_dated, spell_reply,
+    then_number,
 };
-use session_machine::{Deed, Entry};
+use session_machine::{Deed, Entry, Profile};
 
 /// The most bytes of a line, without its line feed.
 pub const MOST_LINE: usize = 16_800_000;
@@ -58,6 +59,18 @@ fn then_deed(out: &mut Vec<u8>, deed: &Deed) -> Result<(), NoMemory>
     push_deed(out, deed)
 }
 
+/// Appends the spelling of a reply in a journal of the profile. After `NoMemory` the buffer holds
+/// what it held.
+pub fn spell_in(out: &mut Vec<u8>, profile: Profile, reply: &Reply) -> Result<(), NoMemory>
+    ensures ok { OnOk result (out.new.items ≡ out.old.items ++ reply_words profile reply.now) }
+    ensures err { OnErr result (out.new.items ≡ out.old.items) }
+{
+    match profile {
+        Profile::One | Profile::Two => spell_reply(out, reply),
+        Profile::Three => spell_dated(out, reply),
+    }
+}
+
 fn push_numbers(out: &mut Vec<u8>, entry: &Entry) -> Result<(), NoMemory>
     ensures ok { OnOk result (out.new.items ≡ out.old.items ++ number_words entry.now) }
     ensures err { OnErr result (Extends out.old.items out.new.items) }
@@ -69,22 +82,33 @@ fn push_numbers(out: &mut Vec<u8>, entry: &Entry) -> Result<(), NoMemory>
 }
 
 #[tactic(auto, unfolding(crate::specs::JournalText::entry_words))]
-fn push_entry(out: &mut Vec<u8>, entry: &Entry) -> Result<(), NoMemory>
-    ensures ok { OnOk result (out.new.items ≡ out.old.items ++ entry_line entry.now) }
+fn push_entry(out: &mut Vec<u8>, profile: Profile, entry: &Entry) -> Result<(), NoMemory>
+    ensures ok { OnOk result (out.new.items ≡ out.old.items ++ entry_line profile entry.now) }
     ensures err { OnErr result (Extends out.old.items out.new.items) }
 {
     push_numbers(out, entry)?;
     then_deed(out, &entry.deed)?;
     push(out, b" : ")?;
-    spell_reply(out, &entry.reply)?;
+    spell_in(out, profile, &entry.reply)?;
     push(out, b"\n")
 }
 
-fn push_head(out: &mut Vec<u8>, place: u64) -> Result<(), NoMemory>
-    ensures ok { OnOk result (out.new.items ≡ out.old.items ++ head_line place) }
+/// The words of a first line before its place, with the space behind them.
+fn start_of(profile: Profile) -> &'static [u8]
+    ensures { result.now ≡ head_start profile ++ codes " " }
+{
+    match profile {
+        Profile::One => b"asp-journal 1 ",
+        Profile::Two => b"asp-journal 2 ",
+        Profile::Three => b"asp-journal 3 ",
+    }
+}
+
+fn push_head(out: &mut Vec<u8>, profile: Profile, place: u64) -> Result<(), NoMemory>
+    ensures ok { OnOk result (out.new.items ≡ out.old.items ++ head_line profile place) }
     ensures err { OnErr result (Extends out.old.items out.new.items) }
 {
-    push(out, b"asp-journal 1 ")?;
+    push(out, start_of(profile))?;
     push_number(out, place)?;
     push(out, b"\n")
 }
@@ -125,31 +149,33 @@ fn reply_has_bytes(reply: &Reply)
     }
 }
 
-/// Appends the first line of a journal whose first entry has this place. After `NoMemory` the
+/// Appends the first line of a journal of the profile whose first entry has this place. After `NoMemory` the
 /// buffer holds what it held.
-pub fn write_head(out: &mut Vec<u8>, place: u64) -> Result<(), NoMemory>
+pub fn write_head(out: &mut Vec<u8>, profile: Profile, place: u64) -> Result<(), NoMemory>
     requires { PlaceFits place }
-    ensures ok { OnOk result (out.new.items ≡ out.old.items ++ head_line place) }
+    ensures ok { OnOk result (out.new.items ≡ out.old.items ++ head_line profile place) }
     ensures err { OnErr result (out.new.items ≡ out.old.items) }
 {
     let len = out.len();
-    let written = push_head(out, place);
+    let written = push_head(out, profile, place);
     or_undo(written, out, len)
 }
 
-/// Appends the line of an entry. After `NoMemory` the buffer holds what it held.
-pub fn write_entry(out: &mut Vec<u8>, entry: &Entry) -> Result<(), NoMemory>
-    requires { IsFormed entry.now }
-    ensures ok { OnOk result (out.new.items ≡ out.old.items ++ entry_line entry.now) }
+/// Appends the line of an entry in a journal of the profile; before profile 3 its reply tells no
+/// moment of an acquisition. After `NoMemory` the buffer holds what it held.
+pub fn write_entry(out: &mut Vec<u8>, profile: Profile, entry: &Entry) -> Result<(), NoMemory>
+    requires formed { IsFormed entry.now }
+    requires told { TellsOnly profile entry.now.reply }
+    ensures ok { OnOk result (out.new.items ≡ out.old.items ++ entry_line profile entry.now) }
     ensures err { OnErr result (out.new.items ≡ out.old.items) }
 
     // What the types say of the entry's numbers and bytes, whatever the result.
-    ensures fits { EntryFits entry.now }
+    ensures fits { EntryFits profile entry.now }
 {
     let _faults = entry.faults;
     deed_has_bytes(&entry.deed);
     reply_has_bytes(&entry.reply);
     let len = out.len();
-    let written = push_entry(out, entry);
+    let written = push_entry(out, profile, entry);
     or_undo(written, out, len)
 }

@@ -14,6 +14,7 @@ pub fn share(item: &Item) -> Result<Item, NoMemory>
         fresh: item.fresh,
         holder: item.holder,
         touched: item.touched,
+        ends: item.ends,
     })
 }
 
@@ -27,5 +28,6 @@ pub fn into_shared(item: Item) -> Result<Item, NoMemory>
         fresh: item.fresh,
         holder: item.holder,
         touched: item.touched,
+        ends: item.ends,
     })
 }

@@ -23,7 +23,7 @@ fn tell(reader: &mut JournalReader, lines: &mut Vec<u8>, most: usize) -> Result<
 {
     'lines: for _ in 0..most {
         match reader.next() {
-            JournalNext::Head { place } => write_head(lines, place)?,
+            JournalNext::Head { profile, place } => write_head(lines, profile, place)?,
             JournalNext::Entry(entry) => write_entry(lines, &entry)?,
             JournalNext::More | JournalNext::NotAJournal { .. } => return Ok(true),
             JournalNext::NoMemory => return Err(NoMemory),

@@ -9,6 +9,7 @@ use Rattle.session_machine.specs.declared.entry.Entry.{Entry}
 use Rattle.session_machine.specs.declared.entry.Deed.{Deed}
 use Rattle.session_machine.specs.declared.entry.Deed.TheVariants.{Asked, Expired, Looked}
 use Rattle.session_machine.specs.declared.item.Item.{Item}
+use Rattle.session_machine.specs.Profiles.{newest}
 use Rattle.session_machine.specs.History.{Marked, marked, has_risen, is_deed_of, entries_of, after_deed, after_entry, DeedStands, IsDead, Lead, nothing}
 use Rattle.shard_core.specs.Standing.{TellsAfter}
 use Rattle.load_generator.specs.Load.{Generating, AreMade, answered, next_request}
@@ -67,7 +68,7 @@ Covers ks items = (key : List ℕ) → items key ≢ None → is_among key ks �
 
 -- the items after an entry
 abbrev next_items : (List ℕ → Option Item) → Marked → List ℕ → Option Item
-next_items items m key = cond (is_deed_of key m.1.deed) (after_entry (items key) m) (items key)
+next_items items m key = cond (is_deed_of key m.1.deed) (after_entry newest (items key) m) (items key)
 
 -- how many deeds are requests, and how many are expiries
 abbrev asks : Deed → ℕ
@@ -99,13 +100,13 @@ cond_some false x y none some = refl
 -- the keys with an item after an entry, of which those before are among ks
 covered : (items : List ℕ → Option Item) (ks : List (List ℕ)) (m : Marked) (deed : Deed)
     → m.1.deed ≡ deed → Covers ks items
-    → ((key : List ℕ) → is_deed_of key deed ≡ true → DeedStands (items key) m.0 m.1.deed m.1)
+    → ((key : List ℕ) → is_deed_of key deed ≡ true → DeedStands newest (items key) m.0 m.1.deed m.1)
     → (ks' : List (List ℕ)) × Covers ks' (next_items items m)
     × (length ks' + expiries deed ≤ length ks + asks deed)
 covered items ks m (Asked request) is covers stands = (request.key ∷ ks, cover, omega arith)
   where
     by_test : (key : List ℕ) (b : Bool) → is_deed_of key m.1.deed ≡ b → bytes_eq key request.key ≡ b
-        → cond b (after_entry (items key) m) (items key) ≢ None
+        → cond b (after_entry newest (items key) m) (items key) ≢ None
         → (bytes_eq key request.key || is_among key ks) ≡ true
     by_test key true at same some = ap (λ b. b || is_among key ks) same
     by_test key false at same some = ap (λ b. b || is_among key ks) same ∙ covers key some
@@ -116,21 +117,21 @@ covered items ks m (Expired gone) is covers stands = (without gone ks, cover, om
   where
     there : items gone ≢ None
     there = dead_is_there (items gone) m.1.moment
-        (subst (λ d. DeedStands (items gone) m.0 d m.1) is (stands gone (bytes_eq-refl gone))).0
+        (subst (λ d. DeedStands newest (items gone) m.0 d m.1) is (stands gone (bytes_eq-refl gone))).0
 
     fewer : length (without gone ks) + 1 ≡ length ks
     fewer = length-without gone ks (covers gone there)
 
-    now_none : (key : List ℕ) → after_entry (items key) m ≡ None
-    now_none key = ap (λ d. after_deed (items key) d m.1) is
+    now_none : (key : List ℕ) → after_entry newest (items key) m ≡ None
+    now_none key = ap (λ d. after_deed newest (items key) d m.1) is
 
     other : (key : List ℕ) → next_items items m key ≢ None → bytes_eq key gone ≡ false
     other key some = sym (ap (is_deed_of key) is)
-        ∙ cond_some (is_deed_of key m.1.deed) (after_entry (items key) m) (items key)
+        ∙ cond_some (is_deed_of key m.1.deed) (after_entry newest (items key) m) (items key)
         (λ _. now_none key) some
 
     kept : (key : List ℕ) → bytes_eq key gone ≡ false → next_items items m key ≡ items key
-    kept key apart = ap (λ b. cond b (after_entry (items key) m) (items key))
+    kept key apart = ap (λ b. cond b (after_entry newest (items key) m) (items key))
         (ap (is_deed_of key) is ∙ apart)
 
     cover : Covers (without gone ks) (next_items items m)
@@ -141,18 +142,18 @@ covered items ks m Looked is covers stands = (ks, cover, omega arith)
   where
     cover : Covers ks (next_items items m)
     cover key some = covers key (λ none. some
-        (ap (λ b. cond b (after_entry (items key) m) (items key)) (ap (is_deed_of key) is) ∙ none))
+        (ap (λ b. cond b (after_entry newest (items key) m) (items key)) (ap (is_deed_of key) is) ∙ none))
 
 lead_on : (b : Bool) (item : Option Item) (m : Marked) (ms : List Marked)
-    → Lead item (cond b (m ∷ ms) ms)
-    → (b ≡ true → DeedStands item m.0 m.1.deed m.1) × Lead (cond b (after_entry item m) item) ms
+    → Lead newest item (cond b (m ∷ ms) ms)
+    → (b ≡ true → DeedStands newest item m.0 m.1.deed m.1) × Lead newest (cond b (after_entry newest item m) item) ms
 lead_on true item m ms lead = (λ _. lead.0, lead.1)
 lead_on false item m ms lead = (λ is. cc, lead)
 
 -- items that are covered by so many keys expire at most so often, and once more for each request
 few_expire : (items : List ℕ → Option Item) (ks : List (List ℕ)) (count : ℕ) (es : List Entry)
     → Covers ks items
-    → ((key : List ℕ) → Lead (items key) (entries_of key (marked count es)))
+    → ((key : List ℕ) → Lead newest (items key) (entries_of key (marked count es)))
     → expired es ≤ length ks + asked es
 few_expire items ks count [] covers leads = omega arith
 few_expire items ks count (e ∷ es) covers leads =

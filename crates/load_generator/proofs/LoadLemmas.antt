@@ -109,7 +109,7 @@ CountsAre-push counts es e are = by_reply e.reply refl
           cookies_out =
               same r is 507 counts.cookies_out are.cookies_out refl;
         }
-    by_reply (replies.Locked cookie age) is = let r = replies.Locked cookie age in
+    by_reply (replies.Locked cookie age since) is = let r = replies.Locked cookie age since in
         record {
           ok = same r is 200 counts.ok are.ok refl;
           bad =

@@ -31,7 +31,7 @@ pub record AreBelow (n : ℕ) (counts : Counts) : Type 0 where
 abbrev pub counted : Counts → Reply → Counts
 counted counts (replies.Found body minutes cookie first) = record counts { ok = counts.ok + 1 }
 counted counts replies.Done = record counts { ok = counts.ok + 1 }
-counted counts (replies.Locked cookie age) = record counts { locked = counts.locked + 1 }
+counted counts (replies.Locked cookie age since) = record counts { locked = counts.locked + 1 }
 counted counts replies.Missing = record counts { missing = counts.missing + 1 }
 counted counts replies.Bad = record counts { bad = counts.bad + 1 }
 counted counts replies.KeeperFault = record counts { faults = counts.faults + 1 }

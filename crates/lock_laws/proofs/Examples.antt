@@ -12,8 +12,9 @@ use Rattle.asp_messages.specs.Ranges.{AskFits, ReplyFits}
 use Rattle.session_machine.specs.declared.entry.Entry.{Entry}
 use Rattle.session_machine.specs.declared.entry.Deed.TheVariants.{Asked}
 use Rattle.session_machine.specs.declared.item.Item.{Item}
-use Rattle.session_machine.specs.History.{DrawFits, HasPlace, IsFormed, is_deed_of, has_risen, marked, entries_of, Lead, CountsRise, DrawsRise, IsHeldBelow, LookStands, IsLegal, item_after, nothing}
-use Rattle.lock_laws.specs.InForce.{Grant, grant_of, touched_of, runs_out, IsInForce}
+use Rattle.session_machine.specs.Profiles.{newest}
+use Rattle.session_machine.specs.History.{DrawFits, HasPlace, IsFormed, is_deed_of, has_risen, marked, entries_of, Lead, CountsRise, DrawsRise, IsHeldBelow, LookStands, IsLegal, item_after, item_after_in, nothing}
+use Rattle.lock_laws.specs.InForce.{Grant, grant_of, on_key, life_of, last_life, runs_out, IsInForce}
 use Rattle.lock_laws.specs.Laws.{named_by, Acts}
 use Rattle.lock_laws.proofs.LawLemmas.{in_force-stands}
 
@@ -98,7 +99,7 @@ of_one other false (s ∷ ss) same =
     (entries_of other (marked 0 (entries ss)))) same ∙ of_one other false ss same
 
 legal_if : (ss : List Said) → AllByRecursion IsSayable ss → DrawsRise 0 (entries ss)
-    → Lead None (marked 0 (entries ss)) → IsLegal nothing 0 (entries ss)
+    → Lead newest None (marked 0 (entries ss)) → IsLegal nothing 0 (entries ss)
 legal_if ss sayable draws leads = record {
   formed = formed ss sayable;
   counts = counts ss;
@@ -108,13 +109,13 @@ legal_if ss sayable draws leads = record {
   looks = looks ss;
 }
   where
-    lead : (b : Bool) → Lead None (cond b (marked 0 (entries ss)) [])
+    lead : (b : Bool) → Lead newest None (cond b (marked 0 (entries ss)) [])
     lead true = leads
     lead false = tt
 
     by_key : (other : List ℕ) (b : Bool) → bytes_eq other key ≡ b
-        → Lead None (entries_of other (marked 0 (entries ss)))
-    by_key other b same = subst (Lead None) (sym (of_one other b ss same)) (lead b)
+        → Lead newest None (entries_of other (marked 0 (entries ss)))
+    by_key other b same = subst (Lead newest None) (sym (of_one other b ss same)) (lead b)
 
 -- ---- what the examples show
 
@@ -123,30 +124,30 @@ legal_if ss sayable draws leads = record {
 pub record IsStale (before : List Entry) (e : Entry) (cookie : ℕ) : Type 0 where
   pub legal : IsLegal nothing 0 (before ++ e ∷ [])
   pub named : named_by e.deed ≡ Some cookie
-  pub out_of_force : IsInForce nothing 0 key cookie before e.moment → ⊥
-  pub idle : Acts nothing 0 key before e → ⊥
+  pub out_of_force : IsInForce newest nothing 0 key cookie before e.moment → ⊥
+  pub idle : Acts newest nothing 0 key before e → ⊥
 
 -- The entry stands in a legal history behind those before, names a cookie that is in force there,
 -- and acts.
 pub record IsUnderLock (before : List Entry) (e : Entry) (cookie : ℕ) : Type 0 where
   pub legal : IsLegal nothing 0 (before ++ e ∷ [])
   pub named : named_by e.deed ≡ Some cookie
-  pub in_force : IsInForce nothing 0 key cookie before e.moment
-  pub acts : Acts nothing 0 key before e
+  pub in_force : IsInForce newest nothing 0 key cookie before e.moment
+  pub acts : Acts newest nothing 0 key before e
 
 -- a cookie is not in force where the item is not under its lock
 stale : (before : List Entry) (e : Entry) (cookie : ℕ) → IsLegal nothing 0 (before ++ e ∷ [])
     → is_deed_of key e.deed ≡ true → named_by e.deed ≡ Some cookie
-    → (Acts nothing 0 key before e → ⊥)
+    → (Acts newest nothing 0 key before e → ⊥)
     → ((grant : Grant) → grant_of (item_after nothing 0 before key) ≡ Some grant
     → grant.cookie ≡ cookie → e.moment < runs_out grant
-    (touched_of (item_after nothing 0 before key)) → ⊥)
+    (life_of (item_after nothing 0 before key)) → ⊥)
     → IsStale before e cookie
 stale before e cookie legal on named idle not = record {
   legal = legal;
   named = named;
   out_of_force = λ force.
-      let there = in_force-stands nothing 0 (before ++ e ∷ []) key before e cookie legal
+      let there = in_force-stands newest nothing 0 (before ++ e ∷ []) key before e cookie legal
       (record { behind = []; place = refl; on_key = on }) force in
       not force.grant there.0 force.by_cookie there.1;
   idle = idle;
@@ -249,12 +250,12 @@ minutes_in (Some grant) = grant.minutes
 
 -- nobody was granted the cookie
 pub a_cookie_never_granted_is_stale : IsStale (entries (stores 0 20 ∷ []))
-    (entry (writes 2000 (Locked 0 0))) 1
+    (entry (writes 2000 (Locked 0 0 None))) 1
 a_cookie_never_granted_is_stale = stale (entries (stores 0 20 ∷ []))
-    (entry (writes 2000 (Locked 0 0))) 1
-    (legal_if (stores 0 20 ∷ writes 2000 (Locked 0 0) ∷ []) (
+    (entry (writes 2000 (Locked 0 0 None))) 1
+    (legal_if (stores 0 20 ∷ writes 2000 (Locked 0 0 None) ∷ []) (
       stores-sayable 0 20 (omega arith) (omega arith) (omega arith),
-      (writes-sayable 2000 (Locked 0 0) (omega arith) (omega arith, omega arith) tt, tt),
+      (writes-sayable 2000 (Locked 0 0 None) (omega arith) (omega arith, omega arith, tt) tt, tt),
     )
     (inl refl, (inl refl, tt)) (refl, (refl, tt))) refl refl (λ acts. acts refl)
     (λ grant is same time. absurd (cc is))
@@ -262,12 +263,12 @@ a_cookie_never_granted_is_stale = stale (entries (stores 0 20 ∷ []))
 -- the holder released the lock
 pub a_cookie_is_stale_after_its_own_release : IsStale
     (entries (stores 0 20 ∷ acquires 0 1000 20 1 ∷ at 0 2000 (Release 1) 0 Done ∷ []))
-    (entry (writes 3000 (Locked 0 0))) 1
+    (entry (writes 3000 (Locked 0 0 None))) 1
 a_cookie_is_stale_after_its_own_release = stale
     (entries (stores 0 20 ∷ acquires 0 1000 20 1 ∷ at 0 2000 (Release 1) 0 Done ∷ []))
-    (entry (writes 3000 (Locked 0 0))) 1
+    (entry (writes 3000 (Locked 0 0 None))) 1
     (legal_if (stores 0 20 ∷ acquires 0 1000 20 1 ∷ at 0 2000 (Release 1) 0 Done
-    ∷ writes 3000 (Locked 0 0) ∷ []) (
+    ∷ writes 3000 (Locked 0 0 None) ∷ []) (
       stores-sayable 0 20 (omega arith) (omega arith) (omega arith),
       (
         acquires-sayable 0 1000 20 1 (omega arith) (omega arith) (omega arith) (omega arith)
@@ -275,7 +276,7 @@ a_cookie_is_stale_after_its_own_release = stale
         (
           plain-sayable 0 2000 (Release 1) Done (omega arith)
               (omega arith) (omega arith) refl tt tt,
-          (writes-sayable 3000 (Locked 0 0) (omega arith) (omega arith, omega arith) tt, tt),
+          (writes-sayable 3000 (Locked 0 0 None) (omega arith) (omega arith, omega arith, tt) tt, tt),
         ),
       ),
     )
@@ -285,15 +286,15 @@ a_cookie_is_stale_after_its_own_release = stale
 -- another caller found the lock too old, released it by the cookie that it was told, and got the
 -- lock under cookie 3
 pub a_cookie_is_stale_after_a_forced_release : IsStale
-    (entries (stores 0 20 ∷ acquires 0 1000 20 1 ∷ at 1 121000 Acquire 2 (Locked 1 120)
+    (entries (stores 0 20 ∷ acquires 0 1000 20 1 ∷ at 1 121000 Acquire 2 (Locked 1 120 (Some 1000))
     ∷ at 1 121500 (Release 1) 0 Done ∷ acquires 1 122000 20 3 ∷ []))
-    (entry (writes 123000 (Locked 3 1))) 1
+    (entry (writes 123000 (Locked 3 1 (Some 122000)))) 1
 a_cookie_is_stale_after_a_forced_release = stale
-    (entries (stores 0 20 ∷ acquires 0 1000 20 1 ∷ at 1 121000 Acquire 2 (Locked 1 120)
+    (entries (stores 0 20 ∷ acquires 0 1000 20 1 ∷ at 1 121000 Acquire 2 (Locked 1 120 (Some 1000))
     ∷ at 1 121500 (Release 1) 0 Done ∷ acquires 1 122000 20 3 ∷ []))
-    (entry (writes 123000 (Locked 3 1))) 1
-    (legal_if (stores 0 20 ∷ acquires 0 1000 20 1 ∷ at 1 121000 Acquire 2 (Locked 1 120)
-    ∷ at 1 121500 (Release 1) 0 Done ∷ acquires 1 122000 20 3 ∷ writes 123000 (Locked 3 1) ∷ []) (
+    (entry (writes 123000 (Locked 3 1 (Some 122000)))) 1
+    (legal_if (stores 0 20 ∷ acquires 0 1000 20 1 ∷ at 1 121000 Acquire 2 (Locked 1 120 (Some 1000))
+    ∷ at 1 121500 (Release 1) 0 Done ∷ acquires 1 122000 20 3 ∷ writes 123000 (Locked 3 1 (Some 122000)) ∷ []) (
       stores-sayable 0 20 (omega arith) (omega arith) (omega arith),
       (
         acquires-sayable 0 1000 20 1 (omega arith) (omega arith) (omega arith) (omega arith)
@@ -305,7 +306,7 @@ a_cookie_is_stale_after_a_forced_release = stale
             ask =
                 tt;
             drawn = omega arith;
-            reply = (omega arith, omega arith);
+            reply = (omega arith, omega arith, omega arith);
             place = tt;
           },
           (
@@ -316,8 +317,8 @@ a_cookie_is_stale_after_a_forced_release = stale
               acquires-sayable 1 122000 20 3 (omega arith) (omega arith) (omega arith) (omega arith)
                   (omega arith) (omega arith),
               (
-                writes-sayable 123000 (Locked 3 1) (omega arith)
-                    (omega arith, omega arith) tt,
+                writes-sayable 123000 (Locked 3 1 (Some 122000)) (omega arith)
+                    (omega arith, omega arith, omega arith) tt,
                 tt,
               ),
             ),
@@ -341,11 +342,11 @@ a_cookie_is_stale_after_a_forced_release = stale
 -- the item expired under the lock, at 61,000, and was stored anew
 pub a_cookie_is_stale_when_its_item_expired_and_came_again : IsStale
     (entries (stores 0 1 ∷ acquires 0 1000 1 1 ∷ stores 61000 1 ∷ []))
-    (entry (writes 62000 (Locked 0 0))) 1
+    (entry (writes 62000 (Locked 0 0 None))) 1
 a_cookie_is_stale_when_its_item_expired_and_came_again =
     stale (entries (stores 0 1 ∷ acquires 0 1000 1 1 ∷ stores 61000 1 ∷ []))
-    (entry (writes 62000 (Locked 0 0))) 1
-    (legal_if (stores 0 1 ∷ acquires 0 1000 1 1 ∷ stores 61000 1 ∷ writes 62000 (Locked 0 0) ∷ []) (
+    (entry (writes 62000 (Locked 0 0 None))) 1
+    (legal_if (stores 0 1 ∷ acquires 0 1000 1 1 ∷ stores 61000 1 ∷ writes 62000 (Locked 0 0 None) ∷ []) (
       stores-sayable 0 1 (omega arith) (omega arith) (omega arith),
       (
         acquires-sayable 0 1000 1 1 (omega arith) (omega arith) (omega arith) (omega arith)
@@ -354,8 +355,8 @@ a_cookie_is_stale_when_its_item_expired_and_came_again =
           stores-sayable 61000 1 (omega arith) (omega arith)
               (omega arith),
           (
-            writes-sayable 62000 (Locked 0 0) (omega arith) (omega arith, omega arith)
-                tt,
+            writes-sayable 62000 (Locked 0 0 None) (omega arith)
+                (omega arith, omega arith, tt) tt,
             tt,
           ),
         ),
@@ -488,10 +489,11 @@ locked other = Some (record {
   holder =
       Some (record { cookie = 7; since = 0 });
   touched = 0;
+  ends = 86400000;
 })
 
 -- its lock counts as granted before the first entry
-pub a_lock_found_at_the_beginning_is_in_force : IsInForce locked 0 key 7 [] 59999
+pub a_lock_found_at_the_beginning_is_in_force : IsInForce newest locked 0 key 7 [] 59999
 a_lock_found_at_the_beginning_is_in_force = record {
   grant = record { cookie = 7; body = codes "x"; minutes = 1 };
   until = [];
@@ -501,3 +503,41 @@ a_lock_found_at_the_beginning_is_in_force = record {
   lasts = tt;
   in_time = omega arith;
 }
+
+-- a map with which a history begins: each key has an item under the lock of cookie 7, for 20
+-- minutes, and the item ends at 500
+abbrev ending : List ℕ → Option Item
+ending other = Some (record {
+  body = codes "x";
+  minutes = 20;
+  fresh = false;
+  holder = Some (record { cookie = 7; since = 0 });
+  touched = 0;
+  ends = 500;
+})
+
+-- a reset was done at 499: the lock is in force as long as the item lives
+pub a_lock_is_in_force_to_the_end_of_its_item : IsInForce newest ending 0 key 7
+    (entries (at 1 499 Reset 0 Done ∷ [])) 499
+a_lock_is_in_force_to_the_end_of_its_item = record {
+  grant = record { cookie = 7; body = codes "x"; minutes = 20 };
+  until = [];
+  since = entries (at 1 499 Reset 0 Done ∷ []);
+  place = record { parts = refl; granted = refl };
+  by_cookie = refl;
+  lasts = (refl, tt);
+  in_time = omega arith;
+}
+
+-- and no reset keeps it in force behind that
+pub no_reset_moves_the_end_of_a_lock : (force : IsInForce newest ending 0 key 7
+    (entries (at 1 499 Reset 0 Done ∷ [])) 500) → force.until ≡ [] → force.since
+    ≡ entries (at 1 499 Reset 0 Done ∷ []) → ⊥
+no_reset_moves_the_end_of_a_lock force first rest =
+    let late : 500 < runs_out force.grant (last_life (life_of (item_after_in newest ending 0 [] key))
+    (on_key key (entries (at 1 499 Reset 0 Done ∷ [])))) =
+    subst (λ es. 500 < runs_out force.grant (last_life (life_of (item_after_in newest ending 0 [] key))
+    (on_key key es))) rest
+    (subst (λ es. 500 < runs_out force.grant (last_life (life_of (item_after_in newest ending 0 es key))
+    (on_key key force.since))) first force.in_time) in
+    omega (arith, late)

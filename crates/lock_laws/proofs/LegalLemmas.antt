@@ -4,8 +4,9 @@ use Rattle.std.specs.Prelude.{IfSome}
 use Rattle.std.specs.List.{AllByRecursion}
 use Rattle.session_machine.specs.declared.entry.Entry.{Entry}
 use Rattle.session_machine.specs.declared.item.Item.{Item}
+use Rattle.session_machine.specs.declared.profile.Profile.{Profile}
 use Rattle.session_machine.specs.declared.item.Hold.{Hold}
-use Rattle.session_machine.specs.History.{Marked, has_risen, marked, is_deed_of, entries_of, after_entry, after_entries, DeedStands, IsFormed, Lead, LookStands, CountsRise, DrawsRise, IsHeldBelow, IsLegal, item_after, count_after}
+use Rattle.session_machine.specs.History.{Marked, has_risen, marked, is_deed_of, entries_of, after_entry, after_entries, DeedStands, IsFormed, Lead, LookStands, CountsRise, DrawsRise, IsHeldBelow, IsLegalIn, item_after_in, count_after}
 use Rattle.session_machine.proofs.HistoryLemmas.{item_after-same, item_after-other}
 use Rattle.lock_laws.specs.InForce.{Grant, granted, grant_under, grant_of, last_grant, IsGranted}
 use Rattle.lock_laws.proofs.EntryLemmas.{OneEntry, one_entry}
@@ -31,14 +32,14 @@ entries_of-append key (m ∷ ms) ns =
     ap (λ es. cond (is_deed_of key m.1.deed) (m ∷ es) es) (entries_of-append key ms ns)
     ∙ cond-append (is_deed_of key m.1.deed) m (entries_of key ms) (entries_of key ns)
 
-Lead-behind : (old : Option Item) (ms ns : List Marked) → Lead old (ms ++ ns)
-    → Lead (after_entries old ms) ns
-Lead-behind old [] ns p = p
-Lead-behind old (m ∷ ms) ns p = Lead-behind (after_entry old m) ms ns p.1
+Lead-behind : (profile : Profile) (old : Option Item) (ms ns : List Marked) → Lead profile old (ms ++ ns)
+    → Lead profile (after_entries profile old ms) ns
+Lead-behind profile old [] ns p = p
+Lead-behind profile old (m ∷ ms) ns p = Lead-behind profile (after_entry profile old m) ms ns p.1
 
-Lead-front : (old : Option Item) (ms ns : List Marked) → Lead old (ms ++ ns) → Lead old ms
-Lead-front old [] ns p = tt
-Lead-front old (m ∷ ms) ns p = (p.0, Lead-front (after_entry old m) ms ns p.1)
+Lead-front : (profile : Profile) (old : Option Item) (ms ns : List Marked) → Lead profile old (ms ++ ns) → Lead profile old ms
+Lead-front profile old [] ns p = tt
+Lead-front profile old (m ∷ ms) ns p = (p.0, Lead-front profile (after_entry profile old m) ms ns p.1)
 
 All-front : {X : Type 0} (P : X → Type 0) (xs ys : List X) → AllByRecursion P (xs ++ ys)
     → AllByRecursion P xs
@@ -55,18 +56,18 @@ DrawsRise-front above [] ys p = tt
 DrawsRise-front above (x ∷ xs) ys p = (p.0, DrawsRise-front (max above x.drawn) xs ys p.1)
 
 -- each front of a legal history is legal
-pub IsLegal-front : (opening : List ℕ → Option Item) (count : ℕ) (xs ys : List Entry)
-    → IsLegal opening count (xs ++ ys) → IsLegal opening count xs
-IsLegal-front opening count xs ys legal = record {
+pub IsLegal-front : (profile : Profile) (opening : List ℕ → Option Item) (count : ℕ) (xs ys : List Entry)
+    → IsLegalIn profile opening count (xs ++ ys) → IsLegalIn profile opening count xs
+IsLegal-front profile opening count xs ys legal = record {
   formed = All-front IsFormed xs ys legal.formed;
   counts = CountsRise-front count xs ys legal.counts;
   draws = DrawsRise-front 0 xs ys legal.draws;
   fresh_draws = All-front (λ e. 0 < e.drawn → (key : List ℕ) → IsHeldBelow e.drawn (opening key)) xs
       ys legal.fresh_draws;
   keys = λ key.
-      Lead-front (opening key) (entries_of key (marked count xs))
+      Lead-front profile (opening key) (entries_of key (marked count xs))
       (entries_of key (marked (count_after count xs) ys))
-      (subst (Lead (opening key)) (ap (entries_of key) (marked-append count xs ys)
+      (subst (Lead profile (opening key)) (ap (entries_of key) (marked-append count xs ys)
       ∙ entries_of-append key (marked count xs) (marked (count_after count xs) ys))
       (legal.keys key));
   looks =
@@ -81,11 +82,11 @@ abbrev pub rose_at : ℕ → List Entry → Entry → Bool
 rose_at count before e = has_risen (count_after count before) e.faults
 
 -- each deed of a legal history may be done where it stands
-pub deed-stands : (opening : List ℕ → Option Item) (count : ℕ) (list : List Entry) (key : List ℕ)
-    (before behind : List Entry) (e : Entry) → IsLegal opening count list
+pub deed-stands : (profile : Profile) (opening : List ℕ → Option Item) (count : ℕ) (list : List Entry) (key : List ℕ)
+    (before behind : List Entry) (e : Entry) → IsLegalIn profile opening count list
     → list ≡ before ++ e ∷ behind → is_deed_of key e.deed ≡ true
-    → DeedStands (item_after opening count before key) (rose_at count before e) e.deed e
-deed-stands opening count list key before behind e legal place same =
+    → DeedStands profile (item_after_in profile opening count before key) (rose_at count before e) e.deed e
+deed-stands profile opening count list key before behind e legal place same =
     let m : Marked = (rose_at count before e, e) in
     let parts : entries_of key (marked count list) ≡ entries_of key (marked count before) ++ m
     ∷ entries_of key (marked e.faults behind) =
@@ -95,22 +96,22 @@ deed-stands opening count list key before behind e legal place same =
     ∙ ap (λ b. entries_of key (marked count before)
     ++ cond b (m ∷ entries_of key (marked e.faults behind))
     (entries_of key (marked e.faults behind))) same in
-    (Lead-behind (opening key) (entries_of key (marked count before))
+    (Lead-behind profile (opening key) (entries_of key (marked count before))
     (m ∷ entries_of key (marked e.faults behind))
-    (subst (Lead (opening key)) parts (legal.keys key))).0
+    (subst (Lead profile (opening key)) parts (legal.keys key))).0
 
 -- the rows of a key in a legal history
-pub run-of_legal : (opening : List ℕ → Option Item) (count : ℕ) (list : List Entry) (key : List ℕ)
-    → IsLegal opening count list
-    → IsRun (λ es. item_after opening count es key) opening key list
-run-of_legal opening count list key legal = record {
+pub run-of_legal : (profile : Profile) (opening : List ℕ → Option Item) (count : ℕ) (list : List Entry) (key : List ℕ)
+    → IsLegalIn profile opening count list
+    → IsRun (λ es. item_after_in profile opening count es key) opening key list
+run-of_legal profile opening count list key legal = record {
   first = refl;
   same = λ before behind e place same.
-      subst (OneEntry (item_after opening count before key) e)
-      (sym (item_after-same opening count before e key same))
-      (one_entry (item_after opening count before key) e key (rose_at count before e) e.deed same
-      (deed-stands opening count list key before behind e legal place same));
-  other = λ before behind e place other. item_after-other opening count before e key other;
+      subst (OneEntry (item_after_in profile opening count before key) e)
+      (sym (item_after-same profile opening count before e key same))
+      (one_entry profile (item_after_in profile opening count before key) e key (rose_at count before e) e.deed same
+      (deed-stands profile opening count list key before behind e legal place same));
+  other = λ before behind e place other. item_after-other profile opening count before e key other;
 }
 
 -- ---- each cookie is granted once
@@ -165,11 +166,11 @@ data Source (opening : List ℕ → Option Item) (key : List ℕ) (list until : 
       → granted e.reply ≡ Some grant → e.drawn ≡ grant.cookie → 0 < e.drawn
       → Source opening key list until grant
 
-source : (opening : List ℕ → Option Item) (count : ℕ) (list : List Entry) (key : List ℕ)
-    (until behind : List Entry) (grant : Grant) → IsLegal opening count list
+source : (profile : Profile) (opening : List ℕ → Option Item) (count : ℕ) (list : List Entry) (key : List ℕ)
+    (until behind : List Entry) (grant : Grant) → IsLegalIn profile opening count list
     → list ≡ until ++ behind → last_grant opening key until ≡ Some grant
     → Source opening key list until grant
-source opening count list key until behind grant legal place is = elim (last_of until) [
+source profile opening count list key until behind grant legal place is = elim (last_of until) [
   | inl none ↦ at_first none (sym (ap (last_grant opening key) none) ∙ is)
   | inr more ↦ by_entry more.0 more.1 more.2
 ]
@@ -188,7 +189,7 @@ source opening count list key until behind grant legal place is = elim (last_of 
         by_key true same =
             let given : granted e.reply ≡ Some grant =
             sym (ap (λ b. cond b (granted e.reply) None) same) ∙ ended in
-            let gives = ((run-of_legal opening count list key legal).same xs behind e at same).gives
+            let gives = ((run-of_legal profile opening count list key legal).same xs behind e at same).gives
             grant given in
             at_entry xs behind e so at given gives.1 gives.2
         by_key false other =
@@ -196,32 +197,32 @@ source opening count list key until behind grant legal place is = elim (last_of 
             ∙ ended in absurd (cc nothing)
 
 -- no item is held at the beginning under a cookie that is drawn
-drawn-fresh : (opening : List ℕ → Option Item) (count : ℕ) (list : List Entry) (key : List ℕ)
-    (xs ys : List Entry) (e : Entry) (grant : Grant) → IsLegal opening count list
+drawn-fresh : (profile : Profile) (opening : List ℕ → Option Item) (count : ℕ) (list : List Entry) (key : List ℕ)
+    (xs ys : List Entry) (e : Entry) (grant : Grant) → IsLegalIn profile opening count list
     → list ≡ xs ++ e ∷ ys → 0 < e.drawn → grant_of (opening key) ≡ Some grant
     → grant.cookie < e.drawn
-drawn-fresh opening count list key xs ys e grant legal place some is =
+drawn-fresh profile opening count list key xs ys e grant legal place some is =
     held-cookie e.drawn (opening key) grant is
     (All-at (λ f. 0 < f.drawn → (k : List ℕ) → IsHeldBelow f.drawn (opening k)) xs ys e
     (subst (AllByRecursion (λ f. 0 < f.drawn → (k : List ℕ) → IsHeldBelow f.drawn (opening k)))
     place legal.fresh_draws) some key)
 
 -- two grants of one cookie are one
-one-source : (opening : List ℕ → Option Item) (count : ℕ) (list : List Entry) (key : List ℕ)
-    (until other : List Entry) (grant granted_too : Grant) → IsLegal opening count list
+one-source : (profile : Profile) (opening : List ℕ → Option Item) (count : ℕ) (list : List Entry) (key : List ℕ)
+    (until other : List Entry) (grant granted_too : Grant) → IsLegalIn profile opening count list
     → grant.cookie ≡ granted_too.cookie → Source opening key list until grant
     → Source opening key list other granted_too → (until ≡ other) × (grant ≡ granted_too)
-one-source opening count list key until other grant too legal same (at_first none is)
+one-source profile opening count list key until other grant too legal same (at_first none is)
     (at_first nothing be) = (none ∙ sym nothing, cc)
-one-source opening count list key until other grant too legal same (at_first none is)
+one-source profile opening count list key until other grant too legal same (at_first none is)
     (at_entry xs ys e so place given drawn some) =
     absurd (let below : grant.cookie < e.drawn =
-    drawn-fresh opening count list key xs ys e grant legal place some is in omega arith)
-one-source opening count list key until other grant too legal same
+    drawn-fresh profile opening count list key xs ys e grant legal place some is in omega arith)
+one-source profile opening count list key until other grant too legal same
     (at_entry xs ys e so place given drawn some) (at_first none is) =
     absurd (let below : too.cookie < e.drawn =
-    drawn-fresh opening count list key xs ys e too legal place some is in omega arith)
-one-source opening count list key until other grant too legal same
+    drawn-fresh profile opening count list key xs ys e too legal place some is in omega arith)
+one-source profile opening count list key until other grant too legal same
     (at_entry xs ys e so place given drawn some) (at_entry us vs f be there gave drew more) =
     let one : (xs ≡ us) × (e ≡ f) = one-draw 0 xs us ys vs e f
     (subst (DrawsRise 0) place legal.draws) (sym place ∙ there) some
@@ -235,18 +236,18 @@ one-source opening count list key until other grant too legal same
       cc (given, gave, replies),
     )
 
-pub one-grant : (opening : List ℕ → Option Item) (count : ℕ) (list : List Entry) (key : List ℕ)
+pub one-grant : (profile : Profile) (opening : List ℕ → Option Item) (count : ℕ) (list : List Entry) (key : List ℕ)
     (before behind until since other later : List Entry) (grant too : Grant)
-    → IsLegal opening count list → list ≡ before ++ behind → grant.cookie ≡ too.cookie
+    → IsLegalIn profile opening count list → list ≡ before ++ behind → grant.cookie ≡ too.cookie
     → IsGranted opening key grant before until since
     → IsGranted opening key too before other later
     → (until ≡ other) × (grant ≡ too)
-one-grant opening count list key before behind until since other later grant too legal place same
+one-grant profile opening count list key before behind until since other later grant too legal place same
     one two =
-    one-source opening count list key until other grant too legal same
-    (source opening count list key until (since ++ behind) grant legal (at until since one.parts)
+    one-source profile opening count list key until other grant too legal same
+    (source profile opening count list key until (since ++ behind) grant legal (at until since one.parts)
     one.granted)
-    (source opening count list key other (later ++ behind) too legal (at other later two.parts)
+    (source profile opening count list key other (later ++ behind) too legal (at other later two.parts)
     two.granted)
   where
     at : (xs ys : List Entry) → before ≡ xs ++ ys → list ≡ xs ++ (ys ++ behind)

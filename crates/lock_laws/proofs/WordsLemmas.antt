@@ -6,7 +6,7 @@ use Rattle.std.proofs.lemmas.List.Elements.{filter-append}
 use Rattle.session_machine.specs.declared.entry.Entry.{Entry}
 use Rattle.session_machine.specs.declared.item.Item.{Item}
 use Rattle.session_machine.specs.History.{is_deed_of}
-use Rattle.lock_laws.specs.InForce.{Grant, granted, grant_of, last_grant, IsGranted, on_key, touched_of, touched_by, last_touch, runs_out, ends, Lasts}
+use Rattle.lock_laws.specs.InForce.{Grant, granted, grant_of, last_grant, IsGranted, on_key, Life, life_of, life_by, last_life, runs_out, ends, Lasts}
 use Rattle.lock_laws.proofs.EntryLemmas.{OneEntry}
 
 -- The rows of a key along a list: row has its item after each first part of the list.
@@ -48,25 +48,25 @@ pub on_key-other : (key : List ℕ) (e : Entry) (es : List Entry) → is_deed_of
     → on_key key (e ∷ es) ≡ on_key key es
 on_key-other key e es other = ap (λ b. cond b (e ∷ on_key key es) (on_key key es)) other
 
-last_touch-append : (touched : ℕ) (xs ys : List Entry)
-    → last_touch touched (xs ++ ys) ≡ last_touch (last_touch touched xs) ys
-last_touch-append touched [] ys = refl
-last_touch-append touched (x ∷ xs) ys = last_touch-append (touched_by touched x) xs ys
+last_life-append : (life : Life) (xs ys : List Entry)
+    → last_life life (xs ++ ys) ≡ last_life (last_life life xs) ys
+last_life-append life [] ys = refl
+last_life-append life (x ∷ xs) ys = last_life-append (life_by life x) xs ys
 
-Lasts-append : (grant : Grant) (touched : ℕ) (xs ys : List Entry) → Lasts grant touched xs
-    → Lasts grant (last_touch touched xs) ys → Lasts grant touched (xs ++ ys)
-Lasts-append grant touched [] ys p q = q
-Lasts-append grant touched (x ∷ xs) ys p q = (
+Lasts-append : (grant : Grant) (life : Life) (xs ys : List Entry) → Lasts grant life xs
+    → Lasts grant (last_life life xs) ys → Lasts grant life (xs ++ ys)
+Lasts-append grant life [] ys p q = q
+Lasts-append grant life (x ∷ xs) ys p q = (
   p.0,
-  Lasts-append grant (touched_by touched x) xs ys
+  Lasts-append grant (life_by life x) xs ys
       p.1 q,
 )
 
-pub Lasts-split : (grant : Grant) (touched : ℕ) (xs ys : List Entry)
-    → Lasts grant touched (xs ++ ys) → Lasts grant touched xs
-    × Lasts grant (last_touch touched xs) ys
-Lasts-split grant touched [] ys p = (tt, p)
-Lasts-split grant touched (x ∷ xs) ys p = let q = Lasts-split grant (touched_by touched x) xs ys p.1
+pub Lasts-split : (grant : Grant) (life : Life) (xs ys : List Entry)
+    → Lasts grant life (xs ++ ys) → Lasts grant life xs
+    × Lasts grant (last_life life xs) ys
+Lasts-split grant life [] ys p = (tt, p)
+Lasts-split grant life (x ∷ xs) ys p = let q = Lasts-split grant (life_by life x) xs ys p.1
     in ((p.0, q.0), q.1)
 
 -- ---- from the words to the row
@@ -104,18 +104,18 @@ granted-locked row opening key list until behind grant run place is = elim (last
             let nothing : None ≡ Some grant = sym (ap (λ b. cond b (granted e.reply) None) other)
             ∙ ended in absurd (cc nothing)
 
--- the row has the lock of the grant, and was last touched then
-abbrev pub Stands : Option Item → Grant → ℕ → Type 0
-Stands old grant touched = (grant_of old ≡ Some grant) × (touched_of old ≡ touched)
+-- the row has the lock of the grant, and lives so long
+abbrev pub Stands : Option Item → Grant → Life → Type 0
+Stands old grant life = (grant_of old ≡ Some grant) × (life_of old ≡ life)
 
 -- a grant that lasts stands in the row, as long as the words say
 pub lasts-stands : (row : List Entry → Option Item) (opening : List ℕ → Option Item) (key : List ℕ)
     (list since until behind : List Entry) (grant : Grant) → IsRun row opening key list
     → list ≡ until ++ (since ++ behind) → grant_of (row until) ≡ Some grant
-    → Lasts grant (touched_of (row until)) (on_key key since)
-    → Stands (row (until ++ since)) grant (last_touch (touched_of (row until)) (on_key key since))
+    → Lasts grant (life_of (row until)) (on_key key since)
+    → Stands (row (until ++ since)) grant (last_life (life_of (row until)) (on_key key since))
 lasts-stands row opening key list [] until behind grant run place there lasts =
-    subst (λ es. Stands (row es) grant (touched_of (row until))) (sym (append-nil until))
+    subst (λ es. Stands (row es) grant (life_of (row until))) (sym (append-nil until))
     (there, refl)
 lasts-stands row opening key list (e ∷ es) until behind grant run place there lasts = by_key
     (lasts-stands row opening key list es (until ++ e ∷ []) behind grant run
@@ -123,41 +123,41 @@ lasts-stands row opening key list (e ∷ es) until behind grant run place there 
   where
     -- the entry has been passed
     passed : Stands (row ((until ++ e ∷ []) ++ es)) grant
-        (last_touch (touched_of (row (until ++ e ∷ []))) (on_key key es))
+        (last_life (life_of (row (until ++ e ∷ []))) (on_key key es))
         → Stands (row (until ++ e ∷ es)) grant
-        (last_touch (touched_of (row (until ++ e ∷ []))) (on_key key es))
+        (last_life (life_of (row (until ++ e ∷ []))) (on_key key es))
     passed = subst (λ fs. Stands (row fs) grant
-        (last_touch (touched_of (row (until ++ e ∷ []))) (on_key key es)))
+        (last_life (life_of (row (until ++ e ∷ []))) (on_key key es)))
         (append_assoc until (e ∷ []) es)
 
     by_key : (grant_of (row (until ++ e ∷ [])) ≡ Some grant
-        → Lasts grant (touched_of (row (until ++ e ∷ []))) (on_key key es)
+        → Lasts grant (life_of (row (until ++ e ∷ []))) (on_key key es)
         → Stands (row ((until ++ e ∷ []) ++ es)) grant
-        (last_touch (touched_of (row (until ++ e ∷ []))) (on_key key es)))
+        (last_life (life_of (row (until ++ e ∷ []))) (on_key key es)))
         → (b : Bool) → is_deed_of key e.deed ≡ b
         → Stands (row (until ++ e ∷ es)) grant
-        (last_touch (touched_of (row until)) (on_key key (e ∷ es)))
+        (last_life (life_of (row until)) (on_key key (e ∷ es)))
     by_key next true same =
-        let all : Lasts grant (touched_of (row until)) (e ∷ on_key key es) =
-        subst (Lasts grant (touched_of (row until))) (on_key-same key e es same) lasts in
-        let kept : Stands (row (until ++ e ∷ [])) grant (touched_by (touched_of (row until)) e) =
+        let all : Lasts grant (life_of (row until)) (e ∷ on_key key es) =
+        subst (Lasts grant (life_of (row until))) (on_key-same key e es same) lasts in
+        let kept : Stands (row (until ++ e ∷ [])) grant (life_by (life_of (row until)) e) =
         (run.same until (es ++ behind) e place same).keeps grant there all.0 in
         let here = passed (next kept.0 (subst (λ t. Lasts grant t (on_key key es)) (sym kept.1)
         all.1)) in (
           here.0,
-          here.1 ∙ ap (λ t. last_touch t (on_key key es)) kept.1
-              ∙ sym (ap (last_touch (touched_of (row until))) (on_key-same key e es same)),
+          here.1 ∙ ap (λ t. last_life t (on_key key es)) kept.1
+              ∙ sym (ap (last_life (life_of (row until))) (on_key-same key e es same)),
         )
     by_key next false other =
         let stays : row (until ++ e ∷ []) ≡ row until =
         run.other until (es ++ behind) e place other in
-        let rest : Lasts grant (touched_of (row until)) (on_key key es) =
-        subst (Lasts grant (touched_of (row until))) (on_key-other key e es other) lasts in
+        let rest : Lasts grant (life_of (row until)) (on_key key es) =
+        subst (Lasts grant (life_of (row until))) (on_key-other key e es other) lasts in
         let here = passed (next (ap grant_of stays ∙ there)
-        (subst (λ o. Lasts grant (touched_of o) (on_key key es)) (sym stays) rest)) in (
+        (subst (λ o. Lasts grant (life_of o) (on_key key es)) (sym stays) rest)) in (
           here.0,
-          here.1 ∙ ap (λ o. last_touch (touched_of o) (on_key key es)) stays
-              ∙ sym (ap (last_touch (touched_of (row until))) (on_key-other key e es other)),
+          here.1 ∙ ap (λ o. last_life (life_of o) (on_key key es)) stays
+              ∙ sym (ap (last_life (life_of (row until))) (on_key-other key e es other)),
         )
 
 -- ---- from the row to the words
@@ -168,8 +168,8 @@ pub record IsHeld (row : List Entry → Option Item) (opening : List ℕ → Opt
   pub until : List Entry
   pub since : List Entry
   pub place : IsGranted opening key grant before until since
-  pub lasts : Lasts grant (touched_of (row until)) (on_key key since)
-  pub last : touched_of (row before) ≡ last_touch (touched_of (row until)) (on_key key since)
+  pub lasts : Lasts grant (life_of (row until)) (on_key key since)
+  pub last : life_of (row before) ≡ last_life (life_of (row until)) (on_key key since)
 
 -- each lock in the row has such words
 abbrev pub EachIsHeld : (List Entry → Option Item) → (List ℕ → Option Item) → List ℕ → List Entry
@@ -190,8 +190,8 @@ held-first row opening key list run grant is = record {
 -- the words go on by one entry
 held-on : (row : List Entry → Option Item) (opening : List ℕ → Option Item) (key : List ℕ)
     (before : List Entry) (e : Entry) (grant : Grant) (held : IsHeld row opening key before grant)
-    → Lasts grant (touched_of (row held.until)) (on_key key (held.since ++ e ∷ []))
-    → touched_of (row (before ++ e ∷ [])) ≡ last_touch (touched_of (row held.until))
+    → Lasts grant (life_of (row held.until)) (on_key key (held.since ++ e ∷ []))
+    → life_of (row (before ++ e ∷ [])) ≡ last_life (life_of (row held.until))
     (on_key key (held.since ++ e ∷ [])) → IsHeld row opening key (before ++ e ∷ []) grant
 held-on row opening key before e grant held lasts last = record {
   until = held.until;
@@ -234,7 +234,7 @@ held-next row opening key list before behind e run place each grant is =
         }
 
         by_staying : grant_of (row before) ≡ Some grant
-            → ends grant.cookie (runs_out grant (touched_of (row before))) e ≡ false
+            → ends grant.cookie (runs_out grant (life_of (row before))) e ≡ false
             → IsHeld row opening key (before ++ e ∷ []) grant
         by_staying there stays =
             let held : IsHeld row opening key before grant = each grant there in
@@ -242,16 +242,16 @@ held-next row opening key list before behind e run place each grant is =
             filter-append (λ f. is_deed_of key f.deed) held.since (e ∷ [])
             ∙ ap (λ es. on_key key held.since ++ es) (on_key-same key e [] same) in
             let kept : Stands (row (before ++ e ∷ [])) grant
-            (touched_by (touched_of (row before)) e) = step.keeps grant there stays in
+            (life_by (life_of (row before)) e) = step.keeps grant there stays in
             held-on row opening key before e grant held
-            (subst (Lasts grant (touched_of (row held.until))) (sym pushed)
-            (Lasts-append grant (touched_of (row held.until)) (on_key key held.since) (e ∷ [])
+            (subst (Lasts grant (life_of (row held.until))) (sym pushed)
+            (Lasts-append grant (life_of (row held.until)) (on_key key held.since) (e ∷ [])
             held.lasts
             (subst (λ t. ends grant.cookie (runs_out grant t) e ≡ false) held.last stays, tt)))
-            (kept.1 ∙ ap (λ t. touched_by t e) held.last
-            ∙ sym (last_touch-append (touched_of (row held.until)) (on_key key held.since)
+            (kept.1 ∙ ap (λ t. life_by t e) held.last
+            ∙ sym (last_life-append (life_of (row held.until)) (on_key key held.since)
             (e ∷ []))
-            ∙ sym (ap (last_touch (touched_of (row held.until))) pushed))
+            ∙ sym (ap (last_life (life_of (row held.until))) pushed))
     by_key false other =
         let stays : row (before ++ e ∷ []) ≡ row before = run.other before behind e place other in
         let held : IsHeld row opening key before grant =
@@ -261,9 +261,9 @@ held-next row opening key list before behind e run place each grant is =
         ∙ ap (λ es. on_key key held.since ++ es) (on_key-other key e [] other)
         ∙ append-nil (on_key key held.since) in
         held-on row opening key before e grant held
-        (subst (Lasts grant (touched_of (row held.until))) (sym pushed) held.lasts)
-        (ap touched_of stays ∙ held.last ∙ sym
-        (ap (last_touch (touched_of (row held.until))) pushed))
+        (subst (Lasts grant (life_of (row held.until))) (sym pushed) held.lasts)
+        (ap life_of stays ∙ held.last ∙ sym
+        (ap (last_life (life_of (row held.until))) pushed))
 
 held-along : (row : List Entry → Option Item) (opening : List ℕ → Option Item) (key : List ℕ)
     (list rest before behind : List Entry) → IsRun row opening key list

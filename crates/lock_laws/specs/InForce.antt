@@ -1,7 +1,7 @@
 -- When a lock is in force: as long as it was granted, was not ended since, and has not run out with
 -- its item's timeout. This is read off what was asked, what was answered and at which moments. A
 -- lock is known by its cookie; moments are milliseconds.
-use Rattle.std.specs.Prelude.{◌≡◌, ℕ, ◌+◌, ◌*◌, ◌<◌, max, List, [], ◌∷◌, ◌++◌, filter, Option, Some, None, Bool, true, false, not, ◌&&◌, ◌||◌, nat_le, ◌==◌, if◌then◌else◌, IsFalse, ⊤}
+use Rattle.std.specs.Prelude.{◌≡◌, ℕ, ◌+◌, ◌*◌, ◌<◌, max, min, List, [], ◌∷◌, ◌++◌, filter, Option, Some, None, Bool, true, false, not, ◌&&◌, ◌||◌, nat_le, ◌==◌, if◌then◌else◌, IsFalse, ⊤}
 use Rattle.asp_messages.specs.declared.request.Ask.{Ask}
 use Rattle.asp_messages.specs.declared.request.Ask.TheVariants.{Release, Write, Remove, Reset}
 use Rattle.asp_messages.specs.declared.reply.Reply.{Reply}
@@ -11,7 +11,8 @@ use Rattle.session_machine.specs.declared.entry.Deed.{Deed}
 use Rattle.session_machine.specs.declared.entry.Deed.TheVariants.{Asked, Expired}
 use Rattle.session_machine.specs.declared.item.Item.{Item}
 use Rattle.session_machine.specs.declared.item.Hold.{Hold}
-use Rattle.session_machine.specs.History.{is_deed_of, item_after}
+use Rattle.session_machine.specs.declared.profile.Profile.{Profile}
+use Rattle.session_machine.specs.History.{is_deed_of, item_after_in}
 
 -- the entries on one key, in order
 abbrev pub on_key : List ℕ → List Entry → List Entry
@@ -71,18 +72,26 @@ abbrev pub prolongs : Deed → Reply → Bool
 prolongs (Asked request) Done = is_reset request.ask
 prolongs deed reply = false
 
--- when the item was last touched, after one more entry on its key
-abbrev pub touched_by : ℕ → Entry → ℕ
-touched_by touched e = if prolongs e.deed e.reply then max touched e.moment else touched
+-- How long an item lives: when it was last touched, and the moment at which it ends however often
+-- it is touched.
+pub record Life : Type 0 where
+  pub touched : ℕ
+  pub end : ℕ
 
--- when the item was last touched: at the grant, or by a reset since
-abbrev pub last_touch : ℕ → List Entry → ℕ
-last_touch touched [] = touched
-last_touch touched (e ∷ es) = last_touch (touched_by touched e) es
+-- how long the item lives, after one more entry on its key
+abbrev pub life_by : Life → Entry → Life
+life_by life e = if prolongs e.deed e.reply
+    then record life { touched = max life.touched e.moment } else life
 
--- the moment from which on the lock is out of force, by the minutes that were granted
-abbrev pub runs_out : Grant → ℕ → ℕ
-runs_out grant touched = touched + grant.minutes * 60000
+-- how long the item lives: it was last touched at the grant, or by a reset since
+abbrev pub last_life : Life → List Entry → Life
+last_life life [] = life
+last_life life (e ∷ es) = last_life (life_by life e) es
+
+-- the moment from which on the lock is out of force: by the minutes that were granted, or at the
+-- item's end if that comes sooner
+abbrev pub runs_out : Grant → Life → ℕ
+runs_out grant life = min (life.touched + grant.minutes * 60000) life.end
 
 -- ---- what ends it
 
@@ -112,29 +121,29 @@ abbrev pub ends : ℕ → ℕ → Entry → Bool
 ends cookie out e = is_given_up cookie e.deed e.reply
     || (nat_le out e.moment && not (is_refused e.reply))
 
--- no entry since the grant ends it, where its item was last touched at the moment touched before
--- them
-abbrev pub Lasts : Grant → ℕ → List Entry → Type 0
-Lasts grant touched [] = ⊤
-Lasts grant touched (e ∷ es) = IsFalse (ends grant.cookie (runs_out grant touched) e)
-    × Lasts grant (touched_by touched e) es
+-- no entry since the grant ends it, where its item lived so long before them
+abbrev pub Lasts : Grant → Life → List Entry → Type 0
+Lasts grant life [] = ⊤
+Lasts grant life (e ∷ es) = IsFalse (ends grant.cookie (runs_out grant life) e)
+    × Lasts grant (life_by life e) es
 
 -- ---- in force
 
--- when the item was last touched
-abbrev pub touched_of : Option Item → ℕ
-touched_of None = 0
-touched_of (Some item) = item.touched
+-- how long the item lives
+abbrev pub life_of : Option Item → Life
+life_of None = record { touched = 0; end = 0 }
+life_of (Some item) = record { touched = item.touched; end = item.ends }
 
--- The lock of the cookie is in force for the key at a moment behind the entries before: it was
--- granted, no entry of the key since then has ended it, and it has not run out.
-pub record IsInForce (opening : List ℕ → Option Item) (count : ℕ) (key : List ℕ) (cookie : ℕ)
-    (before : List Entry) (moment : ℕ) : Type 0 where
+-- The lock of the cookie is in force for the key at a moment behind the entries before, which are a
+-- history of the profile: it was granted, no entry of the key since then has ended it, and it has not run out.
+pub record IsInForce (profile : Profile) (opening : List ℕ → Option Item) (count : ℕ)
+    (key : List ℕ) (cookie : ℕ) (before : List Entry) (moment : ℕ) : Type 0 where
   pub grant : Grant
   pub until : List Entry
   pub since : List Entry
   pub place : IsGranted opening key grant before until since
   pub by_cookie : grant.cookie ≡ cookie
-  pub lasts : Lasts grant (touched_of (item_after opening count until key)) (on_key key since)
-  pub in_time : moment < runs_out grant (last_touch
-      (touched_of (item_after opening count until key)) (on_key key since))
+  pub lasts : Lasts grant (life_of (item_after_in profile opening count until key))
+      (on_key key since)
+  pub in_time : moment < runs_out grant (last_life
+      (life_of (item_after_in profile opening count until key)) (on_key key since))

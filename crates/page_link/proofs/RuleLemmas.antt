@@ -104,10 +104,10 @@ answer-no_fault : (terms : Terms) (count u : ℕ) (ask : Ask) (answer : Heard) (
 unfolding is_fault
 answer-no_fault terms count u Acquire (Reply (Found body minutes None first)) t = refl
 answer-no_fault terms count u Acquire (Reply (Found body minutes (Some cookie) first)) t = refl
-answer-no_fault terms count u Acquire (Reply (Locked cookie age)) t =
+answer-no_fault terms count u Acquire (Reply (Locked cookie age since)) t =
     locked-no_fault terms _ _ _ cookie age _
 answer-no_fault terms count u Acquire answer t = refl
-answer-no_fault terms count u Read (Reply (Locked cookie age)) t =
+answer-no_fault terms count u Read (Reply (Locked cookie age since)) t =
     locked-no_fault terms _ _ _ cookie age _
 answer-no_fault terms count u Read answer t = refl
 answer-no_fault terms count u Reset (Reply done_reply) t = refl
@@ -115,7 +115,7 @@ answer-no_fault terms count u Reset (Reply Missing) t = refl
 answer-no_fault terms count u Reset answer t = refl
 answer-no_fault terms count u (Release cookie) (Reply done_reply) t = refl
 answer-no_fault terms count u (Release cookie) (Reply Missing) t = refl
-answer-no_fault terms count u (Release cookie) (Reply (Locked other age)) t = refl
+answer-no_fault terms count u (Release cookie) (Reply (Locked other age since)) t = refl
 answer-no_fault terms count u (Release cookie) answer t = refl
 answer-no_fault terms count u (Write body minutes fresh cookie) answer t = refused-no_fault answer
 answer-no_fault terms count u (Remove cookie) answer t = refused-no_fault answer
@@ -124,7 +124,7 @@ end-no_fault : (answer : Heard) → is_fault (after_end answer) ≡ false
 unfolding is_fault
 end-no_fault (Reply done_reply) = refl
 end-no_fault (Reply Missing) = refl
-end-no_fault (Reply (Locked cookie age)) = refl
+end-no_fault (Reply (Locked cookie age since)) = refl
 end-no_fault answer = refl
 
 at_end-no_fault : (terms : Terms) (ask : Option Ask) → is_fault (at_end terms ask) ≡ false
@@ -169,7 +169,7 @@ loss-no_run (over outcome) runs = runs
 end-no_run : (answer : Heard) → IsToRun (after_end answer) → ⊥
 end-no_run (Reply done_reply) runs = runs
 end-no_run (Reply Missing) runs = runs
-end-no_run (Reply (Locked cookie age)) runs = runs
+end-no_run (Reply (Locked cookie age since)) runs = runs
 end-no_run answer runs = runs
 
 at_end-no_run : (terms : Terms) (ask : Option Ask) → IsToRun (at_end terms ask) → ⊥

@@ -10,6 +10,7 @@ use Rattle.asp_messages.specs.declared.request.Request.{Request}
 use Rattle.session_machine.specs.declared.entry.Entry.{Entry}
 use Rattle.session_machine.specs.declared.item.Item.{Item}
 use Rattle.shard_core.specs.Standing.{TellsAfter}
+use Rattle.session_machine.specs.Profiles.{newest}
 use Rattle.session_machine.specs.History.{nothing, IsLegal}
 use Rattle.lock_laws.specs.Laws.{ToldLock, IsInForceFor, is_content_ask}
 use Rattle.lock_laws.proofs.WayLemmas.{lock_in_the_way}
@@ -98,7 +99,7 @@ module _ (turns : List Turn) (number : ℕ) (page : Page) (cookie : ℕ)
     request = record { key = page.terms.key; ask = ask_for page.terms.need }
 
     abbrev event : Event
-    event = heard met.moment request (Reply (Locked cookie met.age))
+    event = heard met.moment request (Reply (Locked cookie met.age met.since))
 
     heard-last : map event_of (turns_of number turns) ≡ filter is_heard met.earlier ++ event ∷ []
     heard-last = sym page_lawful.own ∙ ap (filter is_heard) met.last
@@ -113,16 +114,16 @@ module _ (turns : List Turn) (number : ℕ) (page : Page) (cookie : ℕ)
     same_request : place.turn.request ≡ request
     same_request = cc place.answer
 
-    same_reply : place.turn.reply ≡ Locked cookie met.age
+    same_reply : place.turn.reply ≡ Locked cookie met.age met.since
     same_reply = cc place.answer
 
     abbrev told : ToldLock
     told = record { cookie = cookie; seconds = met.age }
 
-    in_force : IsInForceFor nothing 0 page.terms.key told (history place.before) place.turn.moment
+    in_force : IsInForceFor newest nothing 0 page.terms.key told (history place.before) place.turn.moment
     in_force =
-        lock_in_the_way nothing 0 (history turns) legal page.terms.key (history place.before)
-        (entry_of place.turn) cookie met.age
+        lock_in_the_way newest nothing 0 (history turns) legal page.terms.key (history place.before)
+        (entry_of place.turn) cookie met.age met.since
         (record {
           behind = history place.behind;
           place = ap history place.place ∙ map-append entry_of place.before
@@ -143,7 +144,7 @@ module _ (turns : List Turn) (number : ℕ) (page : Page) (cookie : ℕ)
       own = place.own;
       last = place.last;
       answer = place.answer;
-      in_force = subst (IsInForceFor nothing 0 page.terms.key told (history place.before))
+      in_force = subst (IsInForceFor newest nothing 0 page.terms.key told (history place.before))
           same_moment in_force;
     }
 

@@ -8,6 +8,7 @@ use Rattle.asp_messages.specs.declared.request.Ask.{Ask}
 use Rattle.asp_messages.specs.declared.request.Ask.TheVariants.{Read, Acquire, Release, Write, Remove, Reset}
 use Rattle.asp_messages.specs.declared.reply.Reply.TheVariants.{Found, Done as done_reply, Locked, Missing}
 use Rattle.session_machine.specs.History.{nothing, IsLegal}
+use Rattle.session_machine.specs.Profiles.{newest}
 use Rattle.lock_laws.proofs.LegalLemmas.{IsLegal-front}
 use Rattle.visit_core.specs.declared.act.Heard.{Heard}
 use Rattle.visit_core.specs.declared.act.Heard.TheVariants.{Reply, Strange}
@@ -79,12 +80,12 @@ answer-runs terms count w Acquire (Reply (Found body minutes (Some cookie) mark)
 answer-runs terms count w Acquire (Reply (Found body minutes None mark)) t content first e u =
     absurd cc
 answer-runs terms count w Acquire (Reply Missing) t content first e u = tt
-answer-runs terms count w Acquire (Reply (Locked cookie age)) t content first e u =
+answer-runs terms count w Acquire (Reply (Locked cookie age since)) t content first e u =
     absurd (locked-no_run terms count w cookie age t content first e)
 answer-runs terms count w Acquire answer t content first e u = absurd cc
 answer-runs terms count w Read (Reply (Found body minutes cookie mark)) t content first e u = tt
 answer-runs terms count w Read (Reply Missing) t content first e u = tt
-answer-runs terms count w Read (Reply (Locked cookie age)) t content first e u =
+answer-runs terms count w Read (Reply (Locked cookie age since)) t content first e u =
     absurd (locked-no_run terms count w cookie age t content first e)
 answer-runs terms count w Read answer t content first e u = absurd cc
 answer-runs terms count w Reset (Reply done_reply) t content first e u = absurd cc
@@ -92,7 +93,7 @@ answer-runs terms count w Reset (Reply Missing) t content first e u = absurd cc
 answer-runs terms count w Reset answer t content first e u = absurd cc
 answer-runs terms count w (Release own) (Reply done_reply) t content first e u = absurd cc
 answer-runs terms count w (Release own) (Reply Missing) t content first e u = absurd cc
-answer-runs terms count w (Release own) (Reply (Locked cookie age)) t content first e u = absurd cc
+answer-runs terms count w (Release own) (Reply (Locked cookie age since)) t content first e u = absurd cc
 answer-runs terms count w (Release own) answer t content first e u = absurd cc
 answer-runs terms count w (Write body minutes fresh own) answer t content first e u =
     absurd (refused-no_run answer content first e)
@@ -365,7 +366,7 @@ pub run-forces : (script rest : List Line) (world last : World) (out more : List
 run-forces script rest world last out more fits runs leads legal =
     let grown = leads-turns world last rest more leads in
     forces world
-    (IsLegal-front nothing 0 (history world.turns) (history grown.0)
+    (IsLegal-front newest nothing 0 (history world.turns) (history grown.0)
     (subst (IsLegal nothing 0) (ap history grown.1 ∙ map-append entry_of world.turns grown.0)
     legal))
     (run-lawful script world out fits runs)

@@ -76,7 +76,7 @@ pub end-no_run : (answer : Heard) (content : Option (List ℕ)) (first : Bool)
     → after_end answer ≢ run content first
 end-no_run (Reply replies.Done) content first = λ e. cc
 end-no_run (Reply replies.Missing) content first = λ e. cc
-end-no_run (Reply (replies.Locked cookie age)) content first = λ e. cc
+end-no_run (Reply (replies.Locked cookie age since)) content first = λ e. cc
 end-no_run (Reply (replies.Found body minutes cookie mark)) content first = λ e. cc
 end-no_run (Reply replies.Bad) content first = λ e. cc
 end-no_run (Reply replies.KeeperFault) content first = λ e. cc

@@ -12,6 +12,7 @@ use Rattle.asp_messages.specs.PlainSpelling.{◌then◌, flag_word, bytes_word, 
 use Rattle.asp_messages.specs.Ranges.{ReplyFits}
 use Rattle.desk.specs.Draws.{draw_of, draws_in}
 use Rattle.session_machine.specs.declared.entry.Entry.{Entry}
+use Rattle.session_machine.specs.Profiles.{newest}
 use Rattle.session_machine.specs.History.{nothing}
 use Rattle.shard_core.specs.Standing.{asked_entry}
 use Rattle.lock_laws.specs.Laws.{IsInForceFor}
@@ -230,8 +231,8 @@ pub record MetOldLock (turns : List Turn) (number : ℕ) (page : Page) (cookie :
   pub last : turns_of number behind ≡ []
   pub answer : event_of turn ≡ heard met.moment
       (record { key = page.terms.key; ask = ask_for page.terms.need })
-      (Reply (Locked cookie met.age))
-  pub in_force : IsInForceFor nothing 0 page.terms.key
+      (Reply (Locked cookie met.age met.since))
+  pub in_force : IsInForceFor newest nothing 0 page.terms.key
       (record { cookie = cookie; seconds = met.age }) (history before) met.moment
 
 -- a page that releases a lock before its end met that lock, and it was old: a release by force

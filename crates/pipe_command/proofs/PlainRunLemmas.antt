@@ -12,6 +12,7 @@ use Rattle.asp_messages.specs.ReplyText.{reply_text}
 use Rattle.session_machine.specs.declared.entry.Entry.{Entry}
 use Rattle.session_machine.specs.declared.entry.Deed.TheVariants.{Asked}
 use Rattle.desk.specs.Draws.{draws, draw_of, deed_draws, draws_in}
+use Rattle.session_machine.specs.Profiles.{newest}
 use Rattle.journal_text.specs.JournalText.{entry_line, head_line, journal_text}
 use Rattle.pipe_command.specs.PlainRun.{Asking, asking_of, askings, written}
 use Rattle.pipe_command.specs.Progress.{total_draws}
@@ -97,8 +98,8 @@ draws_in-plain start step first k j (Fit r ∷ ms) (e ∷ es) is =
 -- ---- what a run writes
 
 pub journal_text-push : (place : ℕ) (list : List Entry) (e : Entry)
-    → journal_text place (list ++ e ∷ []) ≡ journal_text place list ++ entry_line e
+    → journal_text newest place (list ++ e ∷ []) ≡ journal_text newest place list ++ entry_line newest e
 journal_text-push place list e =
-    ap (λ t. head_line place ++ t) (flat_map-append entry_line list (e ∷ [])
-    ∙ ap (λ t. flat_map entry_line list ++ t) (append-nil (entry_line e)))
-    ∙ sym (append_assoc (head_line place) (flat_map entry_line list) (entry_line e))
+    ap (λ t. head_line newest place ++ t) (flat_map-append (entry_line newest) list (e ∷ [])
+    ∙ ap (λ t. flat_map (entry_line newest) list ++ t) (append-nil (entry_line newest e)))
+    ∙ sym (append_assoc (head_line newest place) (flat_map (entry_line newest) list) (entry_line newest e))

@@ -7,6 +7,7 @@ use Rattle.asp_messages.specs.declared.request.Message.TheVariants.{Fit, Unfit}
 use Rattle.asp_messages.specs.RequestSpelling.{SpellsRequest}
 use Rattle.asp_messages.specs.Stream.{HasNoMessage, IsHopeless}
 use Rattle.asp_messages.proofs.RequestLemmas.{spelling_some}
+use Rattle.session_machine.specs.Profiles.{newest}
 use Rattle.journal_text.specs.JournalText.{journal_text}
 use Rattle.keeper.specs.declared.keeping.Keeper.{Ghosts}
 use Rattle.message_framing.specs.Held.{Held, TakesMessage, broken, fed, waiting}
@@ -24,9 +25,9 @@ use Rattle.pipe_command.specs.Responding.{Gave, HasAnswered, IsRest, Keeps, Lack
 use Rattle.pipe_command.proofs.ProgressLemmas.{Progress-fed, goes_on}
 
 -- the first line of a journal from place 0
-pub first_line : codes "asp-journal 1 0\n" ≡ journal_text 0 []
+pub first_line : codes "asp-journal 3 0\n" ≡ journal_text newest 0 []
 first_line =
-    ap (λ (d : List ℕ). codes "asp-journal 1" ++ codes " " ++ d ++ codes "\n" ++ [])
+    ap (λ (d : List ℕ). codes "asp-journal 3" ++ codes " " ++ d ++ codes "\n" ++ [])
     (sym (decimal_digit 0 (omega arith)))
 
 -- what is no truth is false
@@ -296,12 +297,12 @@ module _ {K : Type 0} (G : Ghosts K) (first : Responder K) where
   -- the first line of a journal is given
   pub begin_did : (old new : Responder K) (bytes due : List ℕ) → new.pipe ≡ old.pipe
       → new.desk ≡ old.desk → new.clock ≡ old.clock → new.stream ≡ old.stream
-      → IsFalse old.is_begun → IsTrue new.is_begun → given new ≡ journal_text 0 [] ++ []
+      → IsFalse old.is_begun → IsTrue new.is_begun → given new ≡ journal_text newest 0 [] ++ []
       → Went G first old bytes due
       → Went G first new bytes (due ++ given new) × Gave G first new bytes due (given new)
   begin_did old new bytes due pipe desk clock stream owes begun gives (rest, is, has) =
-      let line : due ++ journal_text 0 [] ≡ due ++ given new =
-      ap (λ l. due ++ l) (sym (gives ∙ append-nil (journal_text 0 []))) in
+      let line : due ++ journal_text newest 0 [] ≡ due ++ given new =
+      ap (λ l. due ++ l) (sym (gives ∙ append-nil (journal_text newest 0 []))) in
       let now : HasAnswered G first new bytes rest (due ++ given new) =
       of_same old new bytes rest (due ++ given new) pipe desk clock
       (same_rest old bytes rest rest (owing old.is_begun due) (due ++ given new) refl

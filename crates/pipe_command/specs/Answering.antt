@@ -8,6 +8,7 @@ use Rattle.asp_messages.specs.declared.reply.Reply.TheVariants.{Bad}
 use Rattle.asp_messages.specs.ReplyText.{reply_text}
 use Rattle.desk.specs.Draws.{draw_of, draws_in}
 use Rattle.desk.specs.Standing.{DeskState, DeskStandsFor}
+use Rattle.session_machine.specs.Profiles.{newest}
 use Rattle.journal_text.specs.JournalText.{entry_line}
 use Rattle.session_machine.specs.declared.entry.Entry.{Entry}
 use Rattle.session_machine.specs.History.{nothing}
@@ -67,7 +68,7 @@ pub record Answers (CanCount : ℕ → Type 0) (m : Message) (old new : ServerSt
 -- entry
 abbrev pub due_for : Output → Message → Answer → ℕ → List ℕ
 due_for Replies m answer faults = reply_text answer.reply
-due_for Journal (Fit r) answer faults = entry_line (entry_of r answer faults)
+due_for Journal (Fit r) answer faults = entry_line newest (entry_of r answer faults)
 due_for Journal Unfit answer faults = []
 
 -- A message was answered, and what is due for it was given so.

@@ -9,6 +9,7 @@ use Rattle.load_generator.specs.Run.{IsLoad}
 use Rattle.script_runner.specs.Drive as drive
 use Rattle.session_id.specs.Identifiers.{text_of}
 use Rattle.session_machine.specs.declared.entry.Entry.{Entry}
+use Rattle.session_machine.specs.declared.profile.Profile.{Profile}
 use Rattle.stream_run.specs.Flow.{Flow}
 use Rattle.pipe_command.specs.declared.pipe.Pipe.{Pipe}
 use Rattle.pipe_command.specs.declared.words.Command.{Command}
@@ -71,8 +72,9 @@ abbrev pub Completes : Option (List ℕ × List ℕ) → ℕ → Command → Typ
 Completes told status (commands.Pipe run) =
     pipe.IsWholeInput told run.most → (status ≡ 0) ⊎ (status ≡ 6)
 Completes told status commands.Replay =
-    ((place : ℕ) (list : List Entry) → replay.TellsJournal told (2 ^ 40) place list
-    → replay.IsStatusOf status place list)
+    ((profile : Profile) (place : ℕ) (list : List Entry)
+    → replay.TellsJournal told (2 ^ 40) profile place list
+    → replay.IsStatusOf status profile place list)
     × (replay.TellsNoJournal told (2 ^ 40) → (status ≡ 3) ⊎ (status ≡ 6))
 Completes told status commands.Drive =
     drive.TellsScript told → drive.TellsFewer told (2 ^ 40) → (status ≡ 0) ⊎ (status ≡ 6)

@@ -1,6 +1,7 @@
 -- What was given last, in two parts.
 use Rattle.std.specs.Prelude.{ℕ, List, []}
 use Rattle.asp_messages.specs.ReplyText.{body_of}
+use Rattle.session_machine.specs.Profiles.{newest}
 use Rattle.journal_text.specs.JournalText.{journal_text}
 use Rattle.pipe_command.specs.declared.responder.Given.{Given}
 use Rattle.pipe_command.specs.declared.responder.Given.TheVariants as givens
@@ -8,7 +9,7 @@ use Rattle.pipe_command.specs.declared.responder.Given.TheVariants as givens
 -- the head of a reply, or a line
 abbrev pub given_head : Given → List ℕ → List ℕ
 given_head givens.Nothing line = []
-given_head givens.FirstLine line = journal_text 0 []
+given_head givens.FirstLine line = journal_text newest 0 []
 given_head (givens.Reply head reply) line = head
 given_head givens.Line line = line
 

@@ -8,6 +8,7 @@ use Rattle.asp_messages.specs.declared.reply.Reply.TheVariants.{Bad}
 use Rattle.asp_messages.specs.Fields.{most_cookie}
 use Rattle.asp_messages.specs.ReplyText.{reply_text}
 use Rattle.desk.specs.Draws.{draws, draw_of}
+use Rattle.session_machine.specs.Profiles.{newest}
 use Rattle.journal_text.specs.JournalText.{entry_line, journal_text}
 use Rattle.session_machine.specs.declared.entry.Entry.{Entry}
 use Rattle.session_machine.specs.declared.entry.Deed.{Deed}
@@ -52,7 +53,7 @@ output_of true = Journal
 -- what a run writes: the replies, or the journal of its entries
 abbrev pub written_as : Output → List Message → List Entry → List ℕ
 written_as Replies ms list = written ms list
-written_as Journal ms list = journal_text 0 list
+written_as Journal ms list = journal_text newest 0 list
 
 -- what is written behind that for bytes that are no whole messages: one more `Bad`, and nothing
 -- into a journal
@@ -63,4 +64,4 @@ closing Journal = []
 -- what a run may leave out for want of memory: the last line of a journal
 abbrev pub MayLack : Output → List ℕ → Type 0
 MayLack Replies line = line ≡ []
-MayLack Journal line = (line ≡ []) ⊎ ((e : Entry) × (line ≡ entry_line e))
+MayLack Journal line = (line ≡ []) ⊎ ((e : Entry) × (line ≡ entry_line newest e))

@@ -2,6 +2,7 @@
 use Rattle.std.specs.Prelude.{◌≡◌, ◌≢◌, ◌⊎◌, ℕ, Bool, true, false, List, [], ◌++◌, IsTrue, IsFalse}
 use Rattle.asp_messages.specs.RequestSpelling.{SpellsRequest}
 use Rattle.asp_messages.specs.Stream.{HasNoMessage, IsHopeless}
+use Rattle.session_machine.specs.Profiles.{newest}
 use Rattle.journal_text.specs.JournalText.{journal_text}
 use Rattle.desk.specs.Standing.{state_of as desk_state}
 use Rattle.keeper.specs.declared.keeping.Keeper.{Ghosts}
@@ -30,7 +31,7 @@ IsRest reader rest = (IsFalse reader.is_broken × (rest ≡ reader.held))
 -- what is due with the first line of a journal, where that was not given yet
 abbrev pub owing : Bool → List ℕ → List ℕ
 owing true due = due
-owing false due = due ++ journal_text 0 []
+owing false due = due ++ journal_text newest 0 []
 
 -- one thing to do, where the first line of a journal was not given yet
 abbrev pub unbegun : Bool → ℕ

@@ -17,13 +17,13 @@ use asp_messages::{MOST_COOKIE, Message, Reply, ReplyHead, Request, reply_body, 
 use desk::Desk;
 use journal_text::write_entry;
 use keeper::Keeper;
-use session_machine::{Deed, Entry};
+use session_machine::{Deed, Entry, Profile};
 use std::alloc::Global;
 use stream_core::{Next, Stream};
 use stream_run::{Consumer, Step};
 
 /// The first line of a journal from place 0.
-const FIRST_LINE: &[u8] = b"asp-journal 1 0\n";
+const FIRST_LINE: &[u8] = b"asp-journal 3 0\n";
 
 /// How a message was answered.
 #[derive(Debug, Drop)]
@@ -155,7 +155,7 @@ impl<K: Keeper> Responder<K> {
             faults: self.desk.faults(),
         };
         self.line.clear();
-        write_entry(&mut self.line, &entry)?;
+        write_entry(&mut self.line, Profile::Three, &entry)?;
         self.given = Given::Line;
         Ok(())
     }

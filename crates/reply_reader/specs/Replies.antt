@@ -50,7 +50,8 @@ abbrev pub filled_reply : Reply → List ℕ → ReplyMessage
 filled_reply (replies.Found old minutes cookie first) body =
     messages.Reply (replies.Found body minutes cookie first)
 filled_reply replies.Done body = done_with body
-filled_reply (replies.Locked cookie age) body = messages.Reply (replies.Locked cookie age)
+filled_reply (replies.Locked cookie age since) body =
+    messages.Reply (replies.Locked cookie age since)
 filled_reply replies.Missing body = messages.Reply replies.Missing
 filled_reply replies.Bad body = messages.Reply replies.Bad
 filled_reply replies.KeeperFault body = messages.Reply replies.KeeperFault

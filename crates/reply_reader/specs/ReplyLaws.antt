@@ -14,7 +14,7 @@ use Rattle.asp_messages.specs.declared.reply.Reply.{Reply}
 use Rattle.asp_messages.proofs.FramingLemmas.{body_length-le}
 use Rattle.asp_messages.specs.Fields.{Field, Occurrence, absent, one, twice, once, response_fields, body_length, most_body, lock_cookie_field}
 use Rattle.asp_messages.specs.Head.{IsReplyHead, most_head}
-use Rattle.asp_messages.specs.ReplySpelling.{Answer, reply, strange, answer_of, reply_of, ok_reply, done_reply, found_reply, locked_reply, plain_reply, strange_unless, minutes_field, action_flags_field, holder_field, age_field, SpellsReply}
+use Rattle.asp_messages.specs.ReplySpelling.{Answer, reply, strange, answer_of, reply_of, ok_reply, done_reply, found_reply, locked_reply, plain_reply, strange_unless, minutes_field, action_flags_field, holder_field, age_field, since_field, SpellsReply}
 use Rattle.asp_messages.specs.Stream.{HasNoMessage, IsHopeless, IsWaiting}
 use Rattle.message_framing.specs.declared.head_end.Phase.{Phase}
 use Rattle.message_framing.specs.declared.head_end.Phase.TheVariants.{Blank, Line, Feed}
@@ -183,13 +183,13 @@ unfolding filled_answer
 filled-told (messages.Reply r) body = refl
 filled-told (messages.Strange status) body = refl
 
-locked-filled : (status : ℕ) (body : List ℕ) (cookie age : Option ℕ)
-    → filled_answer (strange_unless status (locked_reply cookie age)) body
-    ≡ strange_unless status (locked_reply cookie age)
+locked-filled : (status : ℕ) (body : List ℕ) (cookie age since : Option ℕ)
+    → filled_answer (strange_unless status (locked_reply cookie age since)) body
+    ≡ strange_unless status (locked_reply cookie age since)
 unfolding filled_answer
-locked-filled status body (Some cookie) (Some age) = refl
-locked-filled status body (Some cookie) None = refl
-locked-filled status body None age = refl
+locked-filled status body (Some cookie) (Some age) since = refl
+locked-filled status body (Some cookie) None since = refl
+locked-filled status body None age since = refl
 
 either-filled : (b : Bool) (status : ℕ) (body : List ℕ) (x y x' y' : Option Reply)
     → filled_answer (strange_unless status x) body ≡ strange_unless status x'
@@ -243,7 +243,7 @@ ok_of fields body = ok_reply (once fields (codes "Timeout")) body
 -- what another status says
 abbrev other_of : ℕ → List Field → Option Reply
 other_of status fields = cond (status == 423)
-    (locked_reply (holder_field fields) (age_field fields)) (plain_reply status)
+    (locked_reply (holder_field fields) (age_field fields) (since_field fields)) (plain_reply status)
 
 by_status : (b : Bool) (status : ℕ) (fields : List Field) (body : List ℕ) → (status == 200) ≡ b
     → filled_answer (strange_unless status (cond b (ok_of fields []) (other_of status fields))) body
@@ -254,7 +254,7 @@ by_status true status fields body e =
     (lock_cookie_field fields) (action_flags_field fields) same
 by_status false status fields body e =
     either-filled (status == 423) status body _ _ _ _
-    (locked-filled status body (holder_field fields) (age_field fields))
+    (locked-filled status body (holder_field fields) (age_field fields) (since_field fields))
     (plain-filled status body)
 
 answer-filled : (status : ℕ) (fields : List Field) (body : List ℕ)

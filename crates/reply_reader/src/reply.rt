@@ -6,7 +6,7 @@ ghost use Rattle.asp_messages.specs.ReplySpelling as spelling;
 ghost use Rattle.message_framing.specs.Standings.{standing_of};
 
 use asp_base::Bytes;
-use asp_messages::{MOST_AGE, MOST_COOKIE, MOST_MINUTES, Reply, named};
+use asp_messages::{MOST_AGE, MOST_COOKIE, MOST_MINUTES, MOST_SINCE, Reply, named};
 use httparse::spans::HeaderSpan;
 use message_framing::{Standing, find_field, lock_cookie, number_needed, number_or};
 use std::alloc::Global;
@@ -31,12 +31,12 @@ fn found_reply(
     }
 }
 
-fn locked_reply(cookie: Option<u64>, age: Option<u64>) -> Option<Reply>
-    ensures { result ≡ spelling.locked_reply cookie age }
+fn locked_reply(cookie: Option<u64>, age: Option<u64>, since: Option<u64>) -> Option<Reply>
+    ensures { result ≡ spelling.locked_reply cookie age since }
 {
     let cookie = cookie?;
     let age = age?;
-    Some(Reply::Locked { cookie, age })
+    Some(Reply::Locked { cookie, age, since })
 }
 
 fn plain_reply(status: u16) -> Option<Reply>
@@ -96,7 +96,8 @@ pub fn reply(alloc: Global, status: u16, buf: &[u8], headers: &[HeaderSpan]) -> 
     if status == 423 {
         let cookie = number_needed(MOST_COOKIE, find_field(buf, headers, b"LockCookie"));
         let age = number_needed(MOST_AGE, find_field(buf, headers, b"LockAge"));
-        return locked_reply(cookie, age);
+        let since = number_needed(MOST_SINCE, find_field(buf, headers, b"LockDate"));
+        return locked_reply(cookie, age, since);
     }
     plain_reply(status)
 }

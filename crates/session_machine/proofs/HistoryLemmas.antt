@@ -4,7 +4,8 @@ use Rattle.std.specs.Prelude.{◌⊎◌}
 use Rattle.std.specs.List.{AllByRecursion}
 use Rattle.session_machine.specs.declared.entry.Entry.{Entry}
 use Rattle.session_machine.specs.declared.item.Item.{Item}
-use Rattle.session_machine.specs.History.{Marked, has_risen, marked, is_deed_of, entries_of, after_entry, after_entries, DeedStands, Lead, CountsRise, DrawsRise, greatest_draw, IsHeldBelow, LookStands, IsFormed, IsLegal, IsFreshDraw, item_after, count_after}
+use Rattle.session_machine.specs.declared.profile.Profile.{Profile}
+use Rattle.session_machine.specs.History.{Marked, has_risen, marked, is_deed_of, entries_of, after_entry, after_entries, DeedStands, Lead, CountsRise, DrawsRise, greatest_draw, IsHeldBelow, LookStands, IsFormed, IsLegalIn, IsFreshDraw, item_after_in, count_after}
 
 pub All-push : {X : Type 0} (P : X → Type 0) (xs : List X) (x : X) → AllByRecursion P xs → P x
     → AllByRecursion P (xs ++ x ∷ [])
@@ -30,15 +31,15 @@ entries_of-append key (m ∷ ms) ns =
     ap (λ es. cond (is_deed_of key m.1.deed) (m ∷ es) es) (entries_of-append key ms ns)
     ∙ cond-append (is_deed_of key m.1.deed) m (entries_of key ms) (entries_of key ns)
 
-after_entries-append : (old : Option Item) (ms ns : List Marked)
-    → after_entries old (ms ++ ns) ≡ after_entries (after_entries old ms) ns
-after_entries-append old [] ns = refl
-after_entries-append old (m ∷ ms) ns = after_entries-append (after_entry old m) ms ns
+after_entries-append : (profile : Profile) (old : Option Item) (ms ns : List Marked)
+    → after_entries profile old (ms ++ ns) ≡ after_entries profile (after_entries profile old ms) ns
+after_entries-append profile old [] ns = refl
+after_entries-append profile old (m ∷ ms) ns = after_entries-append profile (after_entry profile old m) ms ns
 
-Lead-append : (old : Option Item) (ms ns : List Marked) → Lead old ms
-    → Lead (after_entries old ms) ns → Lead old (ms ++ ns)
-Lead-append old [] ns p q = q
-Lead-append old (m ∷ ms) ns p q = (p.0, Lead-append (after_entry old m) ms ns p.1 q)
+Lead-append : (profile : Profile) (old : Option Item) (ms ns : List Marked) → Lead profile old ms
+    → Lead profile (after_entries profile old ms) ns → Lead profile old (ms ++ ns)
+Lead-append profile old [] ns p q = q
+Lead-append profile old (m ∷ ms) ns p q = (p.0, Lead-append profile (after_entry profile old m) ms ns p.1 q)
 
 -- the entries of a key with one entry more
 entries_of-push : (key : List ℕ) (count : ℕ) (es : List Entry) (e : Entry)
@@ -48,25 +49,25 @@ entries_of-push key count es e = ap (entries_of key) (marked-push count es e)
     ∙ entries_of-append key (marked count es) _
 
 -- a key of which the entry is not stays as it is
-pub item_after-other : (opening : List ℕ → Option Item) (count : ℕ) (es : List Entry) (e : Entry)
+pub item_after-other : (profile : Profile) (opening : List ℕ → Option Item) (count : ℕ) (es : List Entry) (e : Entry)
     (key : List ℕ) → is_deed_of key e.deed ≡ false
-    → item_after opening count (es ++ e ∷ []) key ≡ item_after opening count es key
-item_after-other opening count es e key other =
-    ap (after_entries (opening key)) (entries_of-push key count es e
+    → item_after_in profile opening count (es ++ e ∷ []) key ≡ item_after_in profile opening count es key
+item_after-other profile opening count es e key other =
+    ap (after_entries profile (opening key)) (entries_of-push key count es e
     ∙ ap (λ b. entries_of key (marked count es)
     ++ cond b ((has_risen (count_after count es) e.faults, e) ∷ []) []) other ∙ append-nil _)
 
 -- a key of which it is goes on to its state after it
-pub item_after-same : (opening : List ℕ → Option Item) (count : ℕ) (es : List Entry) (e : Entry)
+pub item_after-same : (profile : Profile) (opening : List ℕ → Option Item) (count : ℕ) (es : List Entry) (e : Entry)
     (key : List ℕ) → is_deed_of key e.deed ≡ true
-    → item_after opening count (es ++ e ∷ []) key
-    ≡ after_entry (item_after opening count es key)
+    → item_after_in profile opening count (es ++ e ∷ []) key
+    ≡ after_entry profile (item_after_in profile opening count es key)
     (has_risen (count_after count es) e.faults, e)
-item_after-same opening count es e key same =
-    ap (after_entries (opening key)) (entries_of-push key count es e
+item_after-same profile opening count es e key same =
+    ap (after_entries profile (opening key)) (entries_of-push key count es e
     ∙ ap (λ b. entries_of key (marked count es)
     ++ cond b ((has_risen (count_after count es) e.faults, e) ∷ []) []) same)
-    ∙ after_entries-append (opening key) (entries_of key (marked count es)) _
+    ∙ after_entries-append profile (opening key) (entries_of key (marked count es)) _
 
 CountsRise-push : (count : ℕ) (es : List Entry) (e : Entry) → CountsRise count es
     → count_after count es ≤ e.faults → CountsRise count (es ++ e ∷ [])
@@ -110,35 +111,35 @@ fresh-held_below opening es drawn (inl none) some = absurd (omega (arith, none, 
 fresh-held_below opening es drawn (inr fresh) some = fresh.1
 
 -- the entry may stand behind the history
-pub record MayFollow (opening : List ℕ → Option Item) (count : ℕ) (list : List Entry) (e : Entry) :
+pub record MayFollow (profile : Profile) (opening : List ℕ → Option Item) (count : ℕ) (list : List Entry) (e : Entry) :
     Type 0 where
   pub formed : IsFormed e
   pub counts : count_after count list ≤ e.faults
   pub draws : (e.drawn ≡ 0) ⊎ (greatest_draw 0 list < e.drawn)
   pub fresh_draws : 0 < e.drawn → (key : List ℕ) → IsHeldBelow e.drawn (opening key)
   pub keys : (key : List ℕ) → is_deed_of key e.deed ≡ true
-      → DeedStands (item_after opening count list key) (has_risen (count_after count list) e.faults)
+      → DeedStands profile (item_after_in profile opening count list key) (has_risen (count_after count list) e.faults)
       e.deed e
   pub looks : LookStands (has_risen (count_after count list) e.faults) e.deed e.reply
 
-last_lead : (b : Bool) (old : Option Item) (m : Marked)
-    → (b ≡ true → DeedStands old m.0 m.1.deed m.1) → Lead old (cond b (m ∷ []) [])
-last_lead true old m h = (h refl, tt)
-last_lead false old m h = tt
+last_lead : (profile : Profile) (b : Bool) (old : Option Item) (m : Marked)
+    → (b ≡ true → DeedStands profile old m.0 m.1.deed m.1) → Lead profile old (cond b (m ∷ []) [])
+last_lead profile true old m h = (h refl, tt)
+last_lead profile false old m h = tt
 
-pub IsLegal-push : (opening : List ℕ → Option Item) (count : ℕ) (list : List Entry) (e : Entry)
-    → IsLegal opening count list → MayFollow opening count list e
-    → IsLegal opening count (list ++ e ∷ [])
-IsLegal-push opening count list e legal may = record {
+pub IsLegal-push : (profile : Profile) (opening : List ℕ → Option Item) (count : ℕ) (list : List Entry) (e : Entry)
+    → IsLegalIn profile opening count list → MayFollow profile opening count list e
+    → IsLegalIn profile opening count (list ++ e ∷ [])
+IsLegal-push profile opening count list e legal may = record {
   formed = All-push IsFormed list e legal.formed may.formed;
   counts = CountsRise-push count list e legal.counts may.counts;
   draws = DrawsRise-push 0 list e legal.draws may.draws;
   fresh_draws = All-push (λ f. 0 < f.drawn → (key : List ℕ) → IsHeldBelow f.drawn (opening key))
       list e legal.fresh_draws may.fresh_draws;
   keys = λ key.
-      subst (Lead (opening key)) (sym (entries_of-push key count list e))
-      (Lead-append (opening key) (entries_of key (marked count list)) _ (legal.keys key)
-      (last_lead (is_deed_of key e.deed) (item_after opening count list key)
+      subst (Lead profile (opening key)) (sym (entries_of-push key count list e))
+      (Lead-append profile (opening key) (entries_of key (marked count list)) _ (legal.keys key)
+      (last_lead profile (is_deed_of key e.deed) (item_after_in profile opening count list key)
       (has_risen (count_after count list) e.faults, e) (may.keys key)));
   looks =
       subst (AllByRecursion (λ m. LookStands m.0 m.1.deed m.1.reply))
@@ -191,50 +192,50 @@ DrawsRise-behind : (above : ℕ) (es fs : List Entry) → DrawsRise above (es ++
 DrawsRise-behind above [] fs p = p
 DrawsRise-behind above (e ∷ es) fs p = DrawsRise-behind (max above e.drawn) es fs p.1
 
-Lead-front : (old : Option Item) (ms ns : List Marked) → Lead old (ms ++ ns) → Lead old ms
-Lead-front old [] ns p = tt
-Lead-front old (m ∷ ms) ns p = (p.0, Lead-front (after_entry old m) ms ns p.1)
+Lead-front : (profile : Profile) (old : Option Item) (ms ns : List Marked) → Lead profile old (ms ++ ns) → Lead profile old ms
+Lead-front profile old [] ns p = tt
+Lead-front profile old (m ∷ ms) ns p = (p.0, Lead-front profile (after_entry profile old m) ms ns p.1)
 
-Lead-behind : (old : Option Item) (ms ns : List Marked) → Lead old (ms ++ ns)
-    → Lead (after_entries old ms) ns
-Lead-behind old [] ns p = p
-Lead-behind old (m ∷ ms) ns p = Lead-behind (after_entry old m) ms ns p.1
+Lead-behind : (profile : Profile) (old : Option Item) (ms ns : List Marked) → Lead profile old (ms ++ ns)
+    → Lead profile (after_entries profile old ms) ns
+Lead-behind profile old [] ns p = p
+Lead-behind profile old (m ∷ ms) ns p = Lead-behind profile (after_entry profile old m) ms ns p.1
 
 -- each front of a legal history is legal
-pub IsLegal-front : (opening : List ℕ → Option Item) (count : ℕ) (es fs : List Entry)
-    → IsLegal opening count (es ++ fs) → IsLegal opening count es
-IsLegal-front opening count es fs legal = record {
+pub IsLegal-front : (profile : Profile) (opening : List ℕ → Option Item) (count : ℕ) (es fs : List Entry)
+    → IsLegalIn profile opening count (es ++ fs) → IsLegalIn profile opening count es
+IsLegal-front profile opening count es fs legal = record {
   formed = All-front IsFormed es fs legal.formed;
   counts = CountsRise-front count es fs legal.counts;
   draws = DrawsRise-front 0 es fs legal.draws;
   fresh_draws = All-front (λ f. 0 < f.drawn → (key : List ℕ) → IsHeldBelow f.drawn (opening key)) es
       fs legal.fresh_draws;
-  keys = λ key. Lead-front (opening key) (entries_of key (marked count es)) _
-      (subst (Lead (opening key)) (entries_of-parts key count es fs) (legal.keys key));
+  keys = λ key. Lead-front profile (opening key) (entries_of key (marked count es)) _
+      (subst (Lead profile (opening key)) (entries_of-parts key count es fs) (legal.keys key));
   looks = All-front (λ m. LookStands m.0 m.1.deed m.1.reply) (marked count es) _
       (subst (AllByRecursion (λ m. LookStands m.0 m.1.deed m.1.reply)) (marked-append count es fs)
       legal.looks);
 }
 
-first_leads : (b : Bool) (old : Option Item) (m : Marked) (ms : List Marked) → b ≡ true
-    → Lead old (cond b (m ∷ ms) ms) → DeedStands old m.0 m.1.deed m.1
-first_leads true old m ms is lead = lead.0
-first_leads false old m ms is lead = absurd (cc is)
+first_leads : (profile : Profile) (b : Bool) (old : Option Item) (m : Marked) (ms : List Marked) → b ≡ true
+    → Lead profile old (cond b (m ∷ ms) ms) → DeedStands profile old m.0 m.1.deed m.1
+first_leads profile true old m ms is lead = lead.0
+first_leads profile false old m ms is lead = absurd (cc is)
 
 -- each entry of a legal history may stand where it stands
-pub IsLegal-at : (opening : List ℕ → Option Item) (count : ℕ) (es fs : List Entry) (e : Entry)
-    → IsLegal opening count (es ++ e ∷ fs) → MayFollow opening count es e
-IsLegal-at opening count es fs e legal = record {
+pub IsLegal-at : (profile : Profile) (opening : List ℕ → Option Item) (count : ℕ) (es fs : List Entry) (e : Entry)
+    → IsLegalIn profile opening count (es ++ e ∷ fs) → MayFollow profile opening count es e
+IsLegal-at profile opening count es fs e legal = record {
   formed = (All-behind IsFormed es (e ∷ fs) legal.formed).0;
   counts = (CountsRise-behind count es (e ∷ fs) legal.counts).0;
   draws = (DrawsRise-behind 0 es (e ∷ fs) legal.draws).0;
   fresh_draws = (All-behind (λ f. 0 < f.drawn → (key : List ℕ) → IsHeldBelow f.drawn (opening key))
       es (e ∷ fs) legal.fresh_draws).0;
   keys = λ key same.
-      first_leads (is_deed_of key e.deed) (item_after opening count es key)
+      first_leads profile (is_deed_of key e.deed) (item_after_in profile opening count es key)
       (has_risen (count_after count es) e.faults, e) _ same
-      (Lead-behind (opening key) (entries_of key (marked count es)) _
-      (subst (Lead (opening key)) (entries_of-parts key count es (e ∷ fs)) (legal.keys key)));
+      (Lead-behind profile (opening key) (entries_of key (marked count es)) _
+      (subst (Lead profile (opening key)) (entries_of-parts key count es (e ∷ fs)) (legal.keys key)));
   looks = (All-behind (λ m. LookStands m.0 m.1.deed m.1.reply) (marked count es) _
       (subst (AllByRecursion (λ m. LookStands m.0 m.1.deed m.1.reply))
       (marked-append count es (e ∷ fs)) legal.looks)).0;

@@ -6,26 +6,29 @@ use Rattle.asp_messages.specs.declared.request.Ask.{Ask}
 use Rattle.asp_messages.specs.declared.request.Ask.TheVariants.{Read, Acquire, Release, Write, Remove, Reset}
 use Rattle.asp_messages.specs.declared.reply.Reply.{Reply}
 use Rattle.asp_messages.specs.declared.reply.Reply.TheVariants as replies
-use Rattle.asp_messages.specs.Ranges.{AskFits, ReplyFits}
+use Rattle.asp_messages.specs.Ranges.{AskFits, ReplyFits, SinceFits}
 use Rattle.session_machine.specs.declared.item.Item.{Item}
 use Rattle.session_machine.specs.declared.item.Hold.{Hold}
+use Rattle.session_machine.specs.declared.profile.Profile.{Profile}
+use Rattle.session_machine.specs.declared.profile.Profile.TheVariants.{One, Two, Three}
 use Rattle.session_machine.specs.Liveness.{ItemFits, seen, is_live, age}
 use Rattle.session_machine.specs.Machine.{Effect, on_absent, on_free, on_held, on_there, on_seen, effect, Circumstances, Step}
+use Rattle.session_machine.specs.Profiles.{end_of, told_since}
 use Rattle.session_machine.specs.History.{DrawFits, HasPlace, after_reply}
 
 -- the state after a step is the one that its reply fixes
-pub Step-fixes : (old new : Option Item) (ask : Ask) (at : Circumstances) (reply : Reply)
-    → Step old ask at reply new → new ≡ after_reply old at.moment at.drawn ask reply
-Step-fixes old new ask at replies.NoMemory h = h
-Step-fixes old new ask at replies.KeeperFault h = h.1
-Step-fixes old new ask at (replies.Found body minutes cookie first) h =
+pub Step-fixes : (profile : Profile) (old new : Option Item) (ask : Ask) (at : Circumstances) (reply : Reply)
+    → Step profile old ask at reply new → new ≡ after_reply profile old at.moment at.drawn ask reply
+Step-fixes profile old new ask at replies.NoMemory h = h
+Step-fixes profile old new ask at replies.KeeperFault h = h.1
+Step-fixes profile old new ask at (replies.Found body minutes cookie first) h =
     ap (λ (x : Effect). x.1) h
-Step-fixes old new ask at replies.Done h = ap (λ (x : Effect). x.1) h
-Step-fixes old new ask at (replies.Locked cookie a) h = ap (λ (x : Effect). x.1) h
-Step-fixes old new ask at replies.Missing h = ap (λ (x : Effect). x.1) h
-Step-fixes old new ask at replies.Bad h = ap (λ (x : Effect). x.1) h
-Step-fixes old new ask at replies.CookiesOut h = ap (λ (x : Effect). x.1) h
-Step-fixes old new ask at replies.PlacesOut h = ap (λ (x : Effect). x.1) h
+Step-fixes profile old new ask at replies.Done h = ap (λ (x : Effect). x.1) h
+Step-fixes profile old new ask at (replies.Locked cookie a since) h = ap (λ (x : Effect). x.1) h
+Step-fixes profile old new ask at replies.Missing h = ap (λ (x : Effect). x.1) h
+Step-fixes profile old new ask at replies.Bad h = ap (λ (x : Effect). x.1) h
+Step-fixes profile old new ask at replies.CookiesOut h = ap (λ (x : Effect). x.1) h
+Step-fixes profile old new ask at replies.PlacesOut h = ap (λ (x : Effect). x.1) h
 
 -- a cookie that was drawn is in range
 pub DrawFits-lt : (ask : Ask) (drawn : ℕ) → DrawFits ask drawn → drawn < 2 ^ 63
@@ -40,11 +43,17 @@ DrawFits-lt Reset drawn fits = omega (arith, fits)
 abbrev pub EffectFits : Effect → Type 0
 EffectFits x = ReplyFits x.0 × HasPlace x.0 × IfSome x.1 ItemFits
 
-absent-fits : (t : ℕ) (ask : Ask) → t ≤ 2 ^ 62 → AskFits ask → EffectFits (on_absent t ask)
-absent-fits t Read le fits = (tt, tt, tt)
-absent-fits t Acquire le fits = (tt, tt, tt)
-absent-fits t (Release cookie) le fits = (tt, tt, tt)
-absent-fits t (Write body minutes fresh None) le fits = (
+-- an item that is made ends in range
+end-fits : (profile : Profile) (t : ℕ) → t ≤ 2 ^ 62 → end_of profile t < 2 ^ 63
+end-fits One t le = omega arith
+end-fits Two t le = omega arith
+end-fits Three t le = omega arith
+
+absent-fits : (profile : Profile) (t : ℕ) (ask : Ask) → t ≤ 2 ^ 62 → AskFits ask → EffectFits (on_absent profile t ask)
+absent-fits profile t Read le fits = (tt, tt, tt)
+absent-fits profile t Acquire le fits = (tt, tt, tt)
+absent-fits profile t (Release cookie) le fits = (tt, tt, tt)
+absent-fits profile t (Write body minutes fresh None) le fits = (
   tt,
   tt,
   record {
@@ -53,13 +62,14 @@ absent-fits t (Write body minutes fresh None) le fits = (
     minutes = fits.1.1;
     touched =
         le;
+    ends = end-fits profile t le;
     cookie = tt;
     since = tt;
   },
 )
-absent-fits t (Write body minutes fresh (Some cookie)) le fits = (tt, tt, tt)
-absent-fits t (Remove cookie) le fits = (tt, tt, tt)
-absent-fits t Reset le fits = (tt, tt, tt)
+absent-fits profile t (Write body minutes fresh (Some cookie)) le fits = (tt, tt, tt)
+absent-fits profile t (Remove cookie) le fits = (tt, tt, tt)
+absent-fits profile t Reset le fits = (tt, tt, tt)
 
 read-fits : (item : Item) (t drawn : ℕ) → t ≤ 2 ^ 62 → ItemFits item
     → EffectFits (on_free item t drawn Read)
@@ -72,6 +82,7 @@ read-fits item t drawn le fits = (
     minutes = fits.minutes;
     touched =
         omega (arith, fits.touched);
+    ends = fits.ends;
     cookie = fits.cookie;
     since = fits.since;
   },
@@ -90,6 +101,7 @@ free-fits item t drawn Acquire le small some fits asks = (
     minutes = fits.minutes;
     touched =
         omega (arith, fits.touched);
+    ends = fits.ends;
     cookie = small;
     since = le;
   },
@@ -105,17 +117,18 @@ free-fits item t drawn (Write body minutes false None) le small some fits asks =
     minutes = asks.1.1;
     touched =
         omega (arith, fits.touched);
+    ends = fits.ends;
     cookie = fits.cookie;
     since = fits.since;
   },
 )
 free-fits item t drawn (Write body minutes true (Some cookie)) le small some fits asks =
-    ((omega arith, omega arith), tt, fits)
+    ((omega arith, omega arith, tt), tt, fits)
 free-fits item t drawn (Write body minutes false (Some cookie)) le small some fits asks =
-    ((omega arith, omega arith), tt, fits)
+    ((omega arith, omega arith, tt), tt, fits)
 free-fits item t drawn (Remove None) le small some fits asks = (tt, tt, tt)
 free-fits item t drawn (Remove (Some cookie)) le small some fits asks =
-    ((omega arith, omega arith), tt, fits)
+    ((omega arith, omega arith, tt), tt, fits)
 free-fits item t drawn Reset le small some fits asks = (
   tt,
   tt,
@@ -125,25 +138,35 @@ free-fits item t drawn Reset le small some fits asks = (
     minutes = fits.minutes;
     touched =
         omega (arith, fits.touched);
+    ends = fits.ends;
     cookie = fits.cookie;
     since = fits.since;
   },
 )
 
--- a hold in range is in the way in range
-way-fits : (hold : Hold) (t : ℕ) → t ≤ 2 ^ 62 → hold.cookie < 2 ^ 63
-    → (hold.cookie < 2 ^ 63) × (age hold t ≤ 2 ^ 62)
-way-fits hold t le small = (small, omega arith)
+-- the moment that is told of a hold in range is in range
+told-fits : (profile : Profile) (hold : Hold) → hold.since ≤ 2 ^ 62
+    → SinceFits (told_since profile hold)
+told-fits One hold early = tt
+told-fits Two hold early = tt
+told-fits Three hold early = early
+
+-- and a hold in range is in the way in range
+way-fits : (profile : Profile) (hold : Hold) (t : ℕ) → t ≤ 2 ^ 62 → hold.cookie < 2 ^ 63
+    → hold.since ≤ 2 ^ 62
+    → (hold.cookie < 2 ^ 63) × (age hold t ≤ 2 ^ 62) × SinceFits (told_since profile hold)
+way-fits profile hold t le small early = (small, omega arith, told-fits profile hold early)
 
 either : (b : Bool) (x y : Effect) → EffectFits x → EffectFits y → EffectFits (cond b x y)
 either true x y p q = p
 either false x y p q = q
 
-held-fits : (item : Item) (hold : Hold) (t : ℕ) (ask : Ask) → t ≤ 2 ^ 62 → hold.cookie < 2 ^ 63
-    → ItemFits item → AskFits ask → EffectFits (on_held item hold t ask)
-held-fits item hold t Read le small fits asks = (way-fits hold t le small, tt, fits)
-held-fits item hold t Acquire le small fits asks = (way-fits hold t le small, tt, fits)
-held-fits item hold t (Release cookie) le small fits asks =
+held-fits : (profile : Profile) (item : Item) (hold : Hold) (t : ℕ) (ask : Ask) → t ≤ 2 ^ 62
+    → hold.cookie < 2 ^ 63 → hold.since ≤ 2 ^ 62
+    → ItemFits item → AskFits ask → EffectFits (on_held profile item hold t ask)
+held-fits profile item hold t Read le small early fits asks = (way-fits profile hold t le small early, tt, fits)
+held-fits profile item hold t Acquire le small early fits asks = (way-fits profile hold t le small early, tt, fits)
+held-fits profile item hold t (Release cookie) le small early fits asks =
     either (cookie == hold.cookie) _ _ (
       tt,
       tt,
@@ -153,15 +176,16 @@ held-fits item hold t (Release cookie) le small fits asks =
         minutes =
             fits.minutes;
         touched = omega (arith, fits.touched);
+        ends = fits.ends;
         cookie = tt;
         since = tt;
       },
     )
-    (way-fits hold t le small, tt, fits)
-held-fits item hold t (Write body minutes true None) le small fits asks = (tt, tt, fits)
-held-fits item hold t (Write body minutes false None) le small fits asks =
-    (way-fits hold t le small, tt, fits)
-held-fits item hold t (Write body minutes true (Some cookie)) le small fits asks =
+    (way-fits profile hold t le small early, tt, fits)
+held-fits profile item hold t (Write body minutes true None) le small early fits asks = (tt, tt, fits)
+held-fits profile item hold t (Write body minutes false None) le small early fits asks =
+    (way-fits profile hold t le small early, tt, fits)
+held-fits profile item hold t (Write body minutes true (Some cookie)) le small early fits asks =
     either (cookie == hold.cookie) _ _ (
       tt,
       tt,
@@ -171,12 +195,13 @@ held-fits item hold t (Write body minutes true (Some cookie)) le small fits asks
         minutes = asks.1.1;
         touched =
             omega (arith, fits.touched);
+        ends = fits.ends;
         cookie = tt;
         since = tt;
       },
     )
-    (way-fits hold t le small, tt, fits)
-held-fits item hold t (Write body minutes false (Some cookie)) le small fits asks =
+    (way-fits profile hold t le small early, tt, fits)
+held-fits profile item hold t (Write body minutes false (Some cookie)) le small early fits asks =
     either (cookie == hold.cookie) _ _ (
       tt,
       tt,
@@ -186,15 +211,16 @@ held-fits item hold t (Write body minutes false (Some cookie)) le small fits ask
         minutes = asks.1.1;
         touched =
             omega (arith, fits.touched);
+        ends = fits.ends;
         cookie = tt;
         since = tt;
       },
     )
-    (way-fits hold t le small, tt, fits)
-held-fits item hold t (Remove None) le small fits asks = (way-fits hold t le small, tt, fits)
-held-fits item hold t (Remove (Some cookie)) le small fits asks =
-    either (cookie == hold.cookie) _ _ (tt, tt, tt) (way-fits hold t le small, tt, fits)
-held-fits item hold t Reset le small fits asks = (
+    (way-fits profile hold t le small early, tt, fits)
+held-fits profile item hold t (Remove None) le small early fits asks = (way-fits profile hold t le small early, tt, fits)
+held-fits profile item hold t (Remove (Some cookie)) le small early fits asks =
+    either (cookie == hold.cookie) _ _ (tt, tt, tt) (way-fits profile hold t le small early, tt, fits)
+held-fits profile item hold t Reset le small early fits asks = (
   tt,
   tt,
   record {
@@ -203,19 +229,21 @@ held-fits item hold t Reset le small fits asks = (
     minutes = fits.minutes;
     touched =
         omega (arith, fits.touched);
+    ends = fits.ends;
     cookie = fits.cookie;
     since = fits.since;
   },
 )
 
-there-fits : (item : Item) (holder : Option Hold) (t drawn : ℕ) (ask : Ask) → item.holder ≡ holder
+there-fits : (profile : Profile) (item : Item) (holder : Option Hold) (t drawn : ℕ) (ask : Ask) → item.holder ≡ holder
     → t ≤ 2 ^ 62 → drawn < 2 ^ 63 → (ask ≡ Acquire → 0 < drawn) → ItemFits item → AskFits ask
-    → EffectFits (on_there item holder t drawn ask)
-there-fits item None t drawn ask is le small some fits asks =
+    → EffectFits (on_there profile item holder t drawn ask)
+there-fits profile item None t drawn ask is le small some fits asks =
     free-fits item t drawn ask le small some fits asks
-there-fits item (Some hold) t drawn ask is le small some fits asks =
-    held-fits item hold t ask le (subst (λ o. IfSome o (λ h. h.cookie < 2 ^ 63)) is fits.cookie)
-    fits asks
+there-fits profile item (Some hold) t drawn ask is le small some fits asks =
+    held-fits profile item hold t ask le
+    (subst (λ o. IfSome o (λ h. h.cookie < 2 ^ 63)) is fits.cookie)
+    (subst (λ o. IfSome o (λ h. h.since ≤ 2 ^ 62)) is fits.since) fits asks
 
 seen-fits : (old : Option Item) (t : ℕ) → IfSome old ItemFits → IfSome (seen old t) ItemFits
 seen-fits None t fits = tt
@@ -225,32 +253,32 @@ seen-fits (Some item) t fits = by_life (is_live item t)
     by_life true = fits
     by_life false = tt
 
-on_seen-fits : (old : Option Item) (t drawn : ℕ) (ask : Ask) → t ≤ 2 ^ 62 → drawn < 2 ^ 63
+on_seen-fits : (profile : Profile) (old : Option Item) (t drawn : ℕ) (ask : Ask) → t ≤ 2 ^ 62 → drawn < 2 ^ 63
     → (ask ≡ Acquire → 0 < drawn) → IfSome old ItemFits → AskFits ask
-    → EffectFits (on_seen old t drawn ask)
-on_seen-fits None t drawn ask le small some fits asks = absent-fits t ask le asks
-on_seen-fits (Some item) t drawn ask le small some fits asks =
-    there-fits item item.holder t drawn ask refl le small some fits asks
+    → EffectFits (on_seen profile old t drawn ask)
+on_seen-fits profile None t drawn ask le small some fits asks = absent-fits profile t ask le asks
+on_seen-fits profile (Some item) t drawn ask le small some fits asks =
+    there-fits profile item item.holder t drawn ask refl le small some fits asks
 
 -- an effect is in range
-pub effect-fits : (old : Option Item) (t drawn : ℕ) (ask : Ask) → t ≤ 2 ^ 62 → drawn < 2 ^ 63
-    → IfSome old ItemFits → AskFits ask → EffectFits (effect old t drawn ask)
-effect-fits old t drawn Acquire le small fits asks = by_draw (drawn == 0) refl
+pub effect-fits : (profile : Profile) (old : Option Item) (t drawn : ℕ) (ask : Ask) → t ≤ 2 ^ 62 → drawn < 2 ^ 63
+    → IfSome old ItemFits → AskFits ask → EffectFits (effect profile old t drawn ask)
+effect-fits profile old t drawn Acquire le small fits asks = by_draw (drawn == 0) refl
   where
     by_draw : (b : Bool) → (drawn == 0) ≡ b →
-        EffectFits (cond b (replies.CookiesOut, old) (on_seen (seen old t) t drawn Acquire))
+        EffectFits (cond b (replies.CookiesOut, old) (on_seen profile (seen old t) t drawn Acquire))
     by_draw true e = (tt, tt, fits)
-    by_draw false e = on_seen-fits (seen old t) t drawn Acquire le small
+    by_draw false e = on_seen-fits profile (seen old t) t drawn Acquire le small
         (λ _. grind (arith, nat_tests)) (seen-fits old t fits) asks
-effect-fits old t drawn Read le small fits asks =
-    on_seen-fits (seen old t) t drawn Read le small (λ e. cc) (seen-fits old t fits) asks
-effect-fits old t drawn (Release cookie) le small fits asks =
-    on_seen-fits (seen old t) t drawn (Release cookie) le small (λ e. cc) (seen-fits old t fits)
+effect-fits profile old t drawn Read le small fits asks =
+    on_seen-fits profile (seen old t) t drawn Read le small (λ e. cc) (seen-fits old t fits) asks
+effect-fits profile old t drawn (Release cookie) le small fits asks =
+    on_seen-fits profile (seen old t) t drawn (Release cookie) le small (λ e. cc) (seen-fits old t fits)
     asks
-effect-fits old t drawn (Write body minutes fresh cookie) le small fits asks =
-    on_seen-fits (seen old t) t drawn (Write body minutes fresh cookie) le small (λ e. cc)
+effect-fits profile old t drawn (Write body minutes fresh cookie) le small fits asks =
+    on_seen-fits profile (seen old t) t drawn (Write body minutes fresh cookie) le small (λ e. cc)
     (seen-fits old t fits) asks
-effect-fits old t drawn (Remove cookie) le small fits asks =
-    on_seen-fits (seen old t) t drawn (Remove cookie) le small (λ e. cc) (seen-fits old t fits) asks
-effect-fits old t drawn Reset le small fits asks =
-    on_seen-fits (seen old t) t drawn Reset le small (λ e. cc) (seen-fits old t fits) asks
+effect-fits profile old t drawn (Remove cookie) le small fits asks =
+    on_seen-fits profile (seen old t) t drawn (Remove cookie) le small (λ e. cc) (seen-fits old t fits) asks
+effect-fits profile old t drawn Reset le small fits asks =
+    on_seen-fits profile (seen old t) t drawn Reset le small (λ e. cc) (seen-fits old t fits) asks

@@ -12,8 +12,10 @@ use Rattle.session_machine.specs.declared.entry.Entry.{Entry}
 use Rattle.session_machine.specs.declared.entry.Deed.{Deed}
 use Rattle.session_machine.specs.declared.entry.Deed.TheVariants.{Asked, Expired, Looked}
 use Rattle.session_machine.specs.declared.item.Item.{Item}
+use Rattle.session_machine.specs.declared.profile.Profile.{Profile}
 use Rattle.session_machine.specs.Liveness.{is_live}
 use Rattle.session_machine.specs.Machine.{effect, Circumstances, Step}
+use Rattle.session_machine.specs.Profiles.{newest}
 
 -- ---- entries
 
@@ -76,25 +78,25 @@ entries_of key (e ∷ es) = if is_deed_of key e.1.deed then e ∷ entries_of key
     entries_of key es
 
 -- the item after a request, which its reply fixes
-abbrev pub after_reply : Option Item → ℕ → ℕ → Ask → Reply → Option Item
-after_reply old t drawn ask NoMemory = old
-after_reply old t drawn ask KeeperFault = old
-after_reply old t drawn ask reply = (effect old t drawn ask).1
+abbrev pub after_reply : Profile → Option Item → ℕ → ℕ → Ask → Reply → Option Item
+after_reply profile old t drawn ask NoMemory = old
+after_reply profile old t drawn ask KeeperFault = old
+after_reply profile old t drawn ask reply = (effect profile old t drawn ask).1
 
 -- the item after a deed
-abbrev pub after_deed : Option Item → Deed → Entry → Option Item
-after_deed old (Asked request) e = after_reply old e.moment e.drawn request.ask e.reply
-after_deed old (Expired key) e = None
-after_deed old Looked e = old
+abbrev pub after_deed : Profile → Option Item → Deed → Entry → Option Item
+after_deed profile old (Asked request) e = after_reply profile old e.moment e.drawn request.ask e.reply
+after_deed profile old (Expired key) e = None
+after_deed profile old Looked e = old
 
 -- the item of a key after one of its entries
-abbrev pub after_entry : Option Item → Marked → Option Item
-after_entry old e = after_deed old e.1.deed e.1
+abbrev pub after_entry : Profile → Option Item → Marked → Option Item
+after_entry profile old e = after_deed profile old e.1.deed e.1
 
 -- the item of a key after its entries
-abbrev pub after_entries : Option Item → List Marked → Option Item
-after_entries old [] = old
-after_entries old (e ∷ es) = after_entries (after_entry old e) es
+abbrev pub after_entries : Profile → Option Item → List Marked → Option Item
+after_entries profile old [] = old
+after_entries profile old (e ∷ es) = after_entries profile (after_entry profile old e) es
 
 -- there is an item, and it has expired at the moment
 abbrev pub IsDead : Option Item → ℕ → Type 0
@@ -106,17 +108,18 @@ abbrev pub circumstances_of : Bool → Entry → Circumstances
 circumstances_of rose e = record { moment = e.moment; drawn = e.drawn; rose = rose }
 
 -- the deed may be done where the key has the item old
-abbrev pub DeedStands : Option Item → Bool → Deed → Entry → Type 0
-DeedStands old rose (Asked request) e =
-    Step old request.ask (circumstances_of rose e) e.reply
-    (after_reply old e.moment e.drawn request.ask e.reply)
-DeedStands old rose (Expired key) e = IsDead old e.moment × (e.reply ≡ Done)
-DeedStands old rose Looked e = ⊤
+abbrev pub DeedStands : Profile → Option Item → Bool → Deed → Entry → Type 0
+DeedStands profile old rose (Asked request) e =
+    Step profile old request.ask (circumstances_of rose e) e.reply
+    (after_reply profile old e.moment e.drawn request.ask e.reply)
+DeedStands profile old rose (Expired key) e = IsDead old e.moment × (e.reply ≡ Done)
+DeedStands profile old rose Looked e = ⊤
 
 -- a key's entries lead from item to item
-abbrev pub Lead : Option Item → List Marked → Type 0
-Lead old [] = ⊤
-Lead old (e ∷ es) = DeedStands old e.0 e.1.deed e.1 × Lead (after_entry old e) es
+abbrev pub Lead : Profile → Option Item → List Marked → Type 0
+Lead profile old [] = ⊤
+Lead profile old (e ∷ es) = DeedStands profile old e.0 e.1.deed e.1
+    × Lead profile (after_entry profile old e) es
 
 -- ---- the whole
 
@@ -145,19 +148,31 @@ abbrev pub LookStands : Bool → Deed → Reply → Type 0
 LookStands rose Looked KeeperFault = IsTrue rose
 LookStands rose deed reply = ⊤
 
--- The entries are a legal history from the opening items and the opening count of faults.
-pub record IsLegal (opening : List ℕ → Option Item) (count : ℕ) (list : List Entry) : Type 0 where
+-- The entries are a legal history of the profile from the opening items and the opening count of
+-- faults.
+pub record IsLegalIn (profile : Profile) (opening : List ℕ → Option Item) (count : ℕ)
+    (list : List Entry) : Type 0 where
   pub formed : AllByRecursion IsFormed list
   pub counts : CountsRise count list
   pub draws : DrawsRise 0 list
   pub fresh_draws : AllByRecursion (λ e. 0 < e.drawn → (key : List ℕ)
       → IsHeldBelow e.drawn (opening key)) list
-  pub keys : (key : List ℕ) → Lead (opening key) (entries_of key (marked count list))
+  pub keys : (key : List ℕ) → Lead profile (opening key) (entries_of key (marked count list))
   pub looks : AllByRecursion (λ e. LookStands e.0 e.1.deed e.1.reply) (marked count list)
 
--- the item of a key after a history: the map after it
+-- the item of a key after a history of the profile: the map after it
+abbrev pub item_after_in : Profile → (List ℕ → Option Item) → ℕ → List Entry → List ℕ
+    → Option Item
+item_after_in profile opening count list key =
+    after_entries profile (opening key) (entries_of key (marked count list))
+
+-- a legal history of the newest profile
+abbrev pub IsLegal : (List ℕ → Option Item) → ℕ → List Entry → Type 0
+IsLegal opening count list = IsLegalIn newest opening count list
+
+-- the item of a key after a history of the newest profile
 abbrev pub item_after : (List ℕ → Option Item) → ℕ → List Entry → List ℕ → Option Item
-item_after opening count list key = after_entries (opening key) (entries_of key (marked count list))
+item_after opening count list key = item_after_in newest opening count list key
 
 -- the count of faults after a history
 abbrev pub count_after : ℕ → List Entry → ℕ

@@ -1,4 +1,5 @@
 pub mod History
 pub mod Liveness
 pub mod Machine
+pub mod Profiles
 pub mod Verdicts

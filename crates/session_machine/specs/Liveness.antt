@@ -1,11 +1,12 @@
 -- How long an item lives, and how old a lock is. Moments are milliseconds.
-use Rattle.std.specs.Prelude.{ℕ, ◌+◌, ◌-◌, ◌*◌, ◌/◌, ◌^◌, ◌<◌, ◌≤◌, length, Option, Some, None, Bool, nat_lt, if◌then◌else◌, IfSome}
+use Rattle.std.specs.Prelude.{ℕ, ◌+◌, ◌-◌, ◌*◌, ◌/◌, ◌^◌, ◌<◌, ◌≤◌, length, Option, Some, None, Bool, nat_lt, min, if◌then◌else◌, IfSome}
 use Rattle.session_machine.specs.declared.item.Item.{Item}
 use Rattle.session_machine.specs.declared.item.Hold.{Hold}
 
--- the moment from which on the item counts as absent
+-- the moment from which on the item counts as absent: when it was not touched in time, or its end
+-- if that comes sooner
 abbrev pub expiry : Item → ℕ
-expiry item = item.touched + item.minutes * 60000
+expiry item = min (item.touched + item.minutes * 60000) item.ends
 
 -- the item has not expired at the moment
 abbrev pub is_live : Item → ℕ → Bool
@@ -26,5 +27,6 @@ pub record ItemFits (item : Item) : Type 0 where
   pub some_minutes : 0 < item.minutes
   pub minutes : item.minutes ≤ 525600
   pub touched : item.touched ≤ 2 ^ 62
+  pub ends : item.ends < 2 ^ 63
   pub cookie : IfSome item.holder (λ h. h.cookie < 2 ^ 63)
   pub since : IfSome item.holder (λ h. h.since ≤ 2 ^ 62)

@@ -20,7 +20,7 @@ reply_of (kinds.Found cookie first) (Some item) =
     replies.Found item.body item.minutes (named cookie) first
 reply_of (kinds.Found cookie first) None = replies.Bad
 reply_of kinds.Done old = replies.Done
-reply_of (kinds.Locked cookie age) old = replies.Locked cookie age
+reply_of (kinds.Locked cookie age since) old = replies.Locked cookie age since
 reply_of kinds.Missing old = replies.Missing
 reply_of kinds.CookiesOut old = replies.CookiesOut
 
@@ -38,13 +38,14 @@ body_there (Some item) = item.body
 abbrev pub changed : Change → Option Item → Ask → Option Item
 changed changes.Nothing old ask = old
 changed changes.Cut old ask = None
-changed (changes.Store body_of_request minutes fresh holder touched) old ask =
+changed (changes.Store body_of_request minutes fresh holder touched ends) old ask =
     Some (record {
       body = if body_of_request then body_asked ask else body_there old;
       minutes = minutes;
       fresh = fresh;
       holder = holder;
       touched = touched;
+      ends = ends;
     })
 
 -- the reply and the item after it that a verdict stands for

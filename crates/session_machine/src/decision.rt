@@ -6,6 +6,7 @@ ghost use Rattle.session_machine.specs.Machine.{effect, on_absent, on_free, on_h
 ghost use Rattle.session_machine.specs.Verdicts.{effect_of};
 
 use crate::item::{Hold, Item, age, live};
+use crate::profile::{Profile, end_of, told_since};
 use asp_messages::{Ask, Request};
 
 /// The kind of a reply. `Found` has the content and the minutes of the item as it stood.
@@ -15,8 +16,13 @@ pub enum Kind {
     Found { cookie: u64, first: bool },
     /// What was asked is done.
     Done,
-    /// A lock is in the way: its cookie, 0 where there is none, and its age in seconds.
-    Locked { cookie: u64, age: u64 },
+    /// A lock is in the way: its cookie, 0 where there is none, its age in seconds, and where it is
+    /// told the moment of its acquisition.
+    Locked {
+        cookie: u64,
+        age: u64,
+        since: Option<u64>,
+    },
     /// The session has no item.
     Missing,
     /// No cookie was left for an acquire.
@@ -37,6 +43,7 @@ pub enum Change {
         fresh: bool,
         holder: Option<Hold>,
         touched: u64,
+        ends: u64,
     },
 }
 
@@ -49,6 +56,13 @@ pub struct Verdict {
     pub change: Change,
 }
 
+/// A write or a removal names a cookie, and the item is under no lock.
+const NO_LOCK: Kind = Kind::Locked {
+    cookie: 0,
+    age: 0,
+    since: None,
+};
+
 fn unchanged(kind: Kind) -> Verdict
     ensures kind { result.kind ≡ kind }
     ensures change { result.change ≡ Change.Nothing }
@@ -59,8 +73,9 @@ fn unchanged(kind: Kind) -> Verdict
     }
 }
 
-fn on_absent(ask: &Ask, t: u64) -> Verdict
-    ensures { effect_of result None ask.now ≡ on_absent t ask.now }
+fn on_absent(profile: Profile, ask: &Ask, t: u64) -> Verdict
+    requires { t ≤ 2 ^ 62 }
+    ensures { effect_of result None ask.now ≡ on_absent profile t ask.now }
 {
     match ask {
         Ask::Write {
@@ -76,6 +91,7 @@ fn on_absent(ask: &Ask, t: u64) -> Verdict
                 fresh: *fresh,
                 holder: None,
                 touched: t,
+                ends: end_of(profile, t),
             },
         },
         _ => unchanged(Kind::Missing),
@@ -89,9 +105,10 @@ fn stored(
     fresh: bool,
     holder: Option<Hold>,
     touched: u64,
+    ends: u64,
 ) -> Verdict
     ensures kind { result.kind ≡ kind }
-    ensures change { result.change ≡ Change.Store body_of_request minutes fresh holder touched }
+    ensures change { result.change ≡ Change.Store body_of_request minutes fresh holder touched ends }
 {
     Verdict {
         kind,
@@ -101,6 +118,7 @@ fn stored(
             fresh,
             holder,
             touched,
+            ends,
         },
     }
 }
@@ -121,6 +139,7 @@ fn on_free(item: &Item, ask: &Ask, t: u64, drawn: u64) -> Verdict
             false,
             item.holder,
             touched,
+            item.ends,
         ),
         Ask::Acquire => stored(
             Kind::Found {
@@ -135,6 +154,7 @@ fn on_free(item: &Item, ask: &Ask, t: u64, drawn: u64) -> Verdict
                 since: t,
             }),
             touched,
+            item.ends,
         ),
         Ask::Release { .. } => unchanged(Kind::Done),
         Ask::Write {
@@ -147,7 +167,15 @@ fn on_free(item: &Item, ask: &Ask, t: u64, drawn: u64) -> Verdict
             fresh: false,
             cookie: None,
             ..
-        } => stored(Kind::Done, true, *minutes, false, item.holder, touched),
+        } => stored(
+            Kind::Done,
+            true,
+            *minutes,
+            false,
+            item.holder,
+            touched,
+            item.ends,
+        ),
         Ask::Remove { cookie: None } => Verdict {
             kind: Kind::Done,
             change: Change::Cut,
@@ -156,7 +184,7 @@ fn on_free(item: &Item, ask: &Ask, t: u64, drawn: u64) -> Verdict
             cookie: Some(_),
             ..
         }
-        | Ask::Remove { cookie: Some(_) } => unchanged(Kind::Locked { cookie: 0, age: 0 }),
+        | Ask::Remove { cookie: Some(_) } => unchanged(NO_LOCK),
         Ask::Reset => stored(
             Kind::Done,
             false,
@@ -164,22 +192,32 @@ fn on_free(item: &Item, ask: &Ask, t: u64, drawn: u64) -> Verdict
             item.fresh,
             item.holder,
             touched,
+            item.ends,
         ),
     }
 }
 
-fn on_held(item: &Item, hold: Hold, ask: &Ask, t: u64) -> Verdict
-    ensures { effect_of result (Some item.now) ask.now ≡ on_held item.now hold t ask.now }
+fn on_held(profile: Profile, item: &Item, hold: Hold, ask: &Ask, t: u64) -> Verdict
+    ensures { effect_of result (Some item.now) ask.now ≡ on_held profile item.now hold t ask.now }
 {
     let touched = item.touched.max(t);
     let in_the_way = unchanged(Kind::Locked {
         cookie: hold.cookie,
         age: age(&hold, t),
+        since: told_since(profile, &hold),
     });
     match ask {
         Ask::Release { cookie } => {
             if *cookie == hold.cookie {
-                stored(Kind::Done, false, item.minutes, item.fresh, None, touched)
+                stored(
+                    Kind::Done,
+                    false,
+                    item.minutes,
+                    item.fresh,
+                    None,
+                    touched,
+                    item.ends,
+                )
             } else {
                 in_the_way
             }
@@ -196,7 +234,15 @@ fn on_held(item: &Item, hold: Hold, ask: &Ask, t: u64) -> Verdict
             ..
         } => {
             if *cookie == hold.cookie {
-                stored(Kind::Done, true, *minutes, *fresh, None, touched)
+                stored(
+                    Kind::Done,
+                    true,
+                    *minutes,
+                    *fresh,
+                    None,
+                    touched,
+                    item.ends,
+                )
             } else {
                 in_the_way
             }
@@ -220,14 +266,16 @@ fn on_held(item: &Item, hold: Hold, ask: &Ask, t: u64) -> Verdict
             item.fresh,
             item.holder,
             touched,
+            item.ends,
         ),
         _ => in_the_way,
     }
 }
 
 /// An item that has expired counts as absent, and is removed.
-fn on_dead(ask: &Ask, t: u64) -> Verdict
-    ensures { (old : Item) → effect_of result (Some old) ask.now ≡ on_absent t ask.now }
+fn on_dead(profile: Profile, ask: &Ask, t: u64) -> Verdict
+    requires { t ≤ 2 ^ 62 }
+    ensures { (old : Item) → effect_of result (Some old) ask.now ≡ on_absent profile t ask.now }
 {
     match ask {
         Ask::Write {
@@ -235,7 +283,15 @@ fn on_dead(ask: &Ask, t: u64) -> Verdict
             fresh,
             cookie: None,
             ..
-        } => stored(Kind::Done, true, *minutes, *fresh, None, t),
+        } => stored(
+            Kind::Done,
+            true,
+            *minutes,
+            *fresh,
+            None,
+            t,
+            end_of(profile, t),
+        ),
         _ => Verdict {
             kind: Kind::Missing,
             change: Change::Cut,
@@ -243,12 +299,20 @@ fn on_dead(ask: &Ask, t: u64) -> Verdict
     }
 }
 
-/// What the session machine answers to a request at the moment `t`, and what becomes of the item.
-/// `drawn` is the cookie that was drawn for an acquire, 0 where none was left. It takes no memory.
-pub fn decide(item: Option<&Item>, t: u64, request: &Request, drawn: u64) -> Verdict
-    requires { IfSome (option_copied item) ItemFits }
+/// What the session machine answers in this profile to a request at the moment `t`, and what becomes
+/// of the item. `drawn` is the cookie that was drawn for an acquire, 0 where none was left. It takes
+/// no memory.
+pub fn decide(
+    item: Option<&Item>,
+    t: u64,
+    request: &Request,
+    drawn: u64,
+    profile: Profile,
+) -> Verdict
+    requires item { IfSome (option_copied item) ItemFits }
+    requires moment { t ≤ 2 ^ 62 }
     ensures { effect_of result (option_copied item.entry) request.now.ask
-        ≡ effect (option_copied item.entry) t drawn request.now.ask }
+        ≡ effect profile (option_copied item.entry) t drawn request.now.ask }
 {
     if let Ask::Acquire = request.ask {
         if drawn == 0 {
@@ -256,14 +320,14 @@ pub fn decide(item: Option<&Item>, t: u64, request: &Request, drawn: u64) -> Ver
         }
     }
     match item {
-        None => on_absent(&request.ask, t),
+        None => on_absent(profile, &request.ask, t),
         Some(item) => {
             if !live(item, t) {
-                return on_dead(&request.ask, t);
+                return on_dead(profile, &request.ask, t);
             }
             match item.holder {
                 None => on_free(item, &request.ask, t, drawn),
-                Some(hold) => on_held(item, hold, &request.ask, t),
+                Some(hold) => on_held(profile, item, hold, &request.ask, t),
             }
         }
     }

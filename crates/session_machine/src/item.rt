@@ -26,6 +26,8 @@ pub struct Item {
     pub holder: Option<Hold>,
     /// The last moment at which it was touched, in milliseconds, at most 2^62.
     pub touched: u64,
+    /// The moment at which it ends, however often it is touched, in milliseconds, below 2^63.
+    pub ends: u64,
 }
 
 /// The moment from which on the item counts as absent, in milliseconds.
@@ -33,7 +35,7 @@ pub fn expiry(item: &Item) -> u64
     requires { liveness.ItemFits item.now }
     ensures { result ≡ liveness.expiry item.now }
 {
-    item.touched + item.minutes * 60_000
+    (item.touched + item.minutes * 60_000).min(item.ends)
 }
 
 /// Whether the item still lives at the moment `t`.

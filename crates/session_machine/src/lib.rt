@@ -5,7 +5,9 @@
 mod decision;
 mod entry;
 mod item;
+mod profile;
 
 pub use decision::{Change, Kind, Verdict, decide};
 pub use entry::{Deed, Entry};
 pub use item::{Hold, Item, age, expiry, live};
+pub use profile::{Profile, end_of};

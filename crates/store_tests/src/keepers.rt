@@ -41,6 +41,7 @@ fn item(alloc: Global, content: u8, touched: u32) -> Result<Item, NoMemory>
         fresh: false,
         holder: None,
         touched: u64::from(touched),
+        ends: (1 << 63) - 1,
     })
 }
 

@@ -91,7 +91,7 @@ fn cookie_removes_only_while_its_lock_is_held(rt: HostRuntime) -> Result<(), Fai
         4000,
         0,
     );
-    assert_eq!(rt; reply, Reply::Locked { cookie: 0, age: 0 });
+    assert_eq!(rt; reply, Reply::Locked { cookie: 0, age: 0, since: None });
     let reply = act(&mut shard, asks(alloc, Ask::Read)?, 5000, 0);
     assert_eq!(rt; reply, found(alloc, b'y', None)?);
     assert_eq!(rt; shard.faults(), 0);

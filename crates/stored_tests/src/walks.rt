@@ -41,6 +41,7 @@ fn item(alloc: Global, content: u8, minutes: u64) -> Result<Item, NoMemory>
             since: 1 << 62,
         }),
         touched: 0,
+        ends: (1 << 63) - 1,
     })
 }
 

@@ -78,11 +78,11 @@ asked-acts key Exclusive limits locked from t (Reply (Found body minutes None fi
     rw e refl
 asked-acts key Exclusive limits locked from t (Reply (Found body minutes (Some cookie) first)) past
     e n u = rw e refl
-asked-acts key Exclusive limits locked from t (Reply (Locked cookie age)) past e n u =
+asked-acts key Exclusive limits locked from t (Reply (Locked cookie age since)) past e n u =
     rw (e, n) (locked-acts _ t (record { cookie = cookie; age = age }) u refl)
 asked-acts key Exclusive limits locked from t (Reply Missing) past e n u = rw e refl
 asked-acts key Exclusive limits locked from t answer past e n u = rw e refl
-asked-acts key ReadOnly limits locked from t (Reply (Locked cookie age)) past e n u =
+asked-acts key ReadOnly limits locked from t (Reply (Locked cookie age since)) past e n u =
     rw (e, n) (locked-acts _ t (record { cookie = cookie; age = age }) u refl)
 asked-acts key ReadOnly limits locked from t answer past e n u = rw e refl
 asked-acts key Off limits locked from t (Reply done_reply) past e n u = rw e refl
@@ -106,13 +106,13 @@ asked-knows key Exclusive limits locked from t (Reply (Found body minutes None f
     none = tt
 asked-knows key Exclusive limits locked from t (Reply (Found body minutes (Some cookie) first)) past
     e n none = refl
-asked-knows key Exclusive limits locked from t (Reply (Locked cookie age)) past e n none =
+asked-knows key Exclusive limits locked from t (Reply (Locked cookie age since)) past e n none =
     locked-knows _ t _ _ refl (ap (λ m. m + 1) n) e none
 asked-knows key Exclusive limits locked from t (Reply Missing) past e n none = none
 asked-knows key Exclusive limits locked from t answer past e n none = tt
 asked-knows key ReadOnly limits locked from t (Reply (Found body minutes cookie first)) past e n
     none = none
-asked-knows key ReadOnly limits locked from t (Reply (Locked cookie age)) past e n none =
+asked-knows key ReadOnly limits locked from t (Reply (Locked cookie age since)) past e n none =
     locked-knows _ t _ _ refl (ap (λ m. m + 1) n) e none
 asked-knows key ReadOnly limits locked from t (Reply Missing) past e n none = none
 asked-knows key ReadOnly limits locked from t answer past e n none = tt
@@ -139,7 +139,7 @@ forced-acts : (terms : Terms) (locked cookie t : ℕ) (answer : Heard) (past : L
     ≡ stage_act visit.terms visit.ask visit.stage u)
 forced-acts terms locked cookie t (Reply done_reply) past e u = rw e (sym (asking-now terms _ u))
 forced-acts terms locked cookie t (Reply Missing) past e u = rw e (sym (asking-now terms _ u))
-forced-acts terms locked cookie t (Reply (Locked other age)) past e u =
+forced-acts terms locked cookie t (Reply (Locked other age since)) past e u =
     rw e (sym (asking-now terms _ u))
 forced-acts terms locked cookie t answer past e u = rw e refl
 
@@ -157,7 +157,7 @@ forced-knows : (terms : Terms) (locked cookie t : ℕ) (answer : Heard) (past : 
     (heard t (record { key = terms.key; ask = ask }) answer ∷ past))
 forced-knows terms locked cookie t (Reply done_reply) past n e none = (refl, n, e, none)
 forced-knows terms locked cookie t (Reply Missing) past n e none = (refl, n, e, none)
-forced-knows terms locked cookie t (Reply (Locked other age)) past n e none = (refl, n, e, none)
+forced-knows terms locked cookie t (Reply (Locked other age since)) past n e none = (refl, n, e, none)
 forced-knows terms locked cookie t answer past n e none = tt
 
 -- the answer to the request of the page's end
@@ -167,14 +167,14 @@ end-acts : (terms : Terms) (ask : Ask) (request : Request) (t : ℕ) (answer : H
     ≡ stage_act terms ask (end_answered answer) u
 end-acts terms ask request t (Reply done_reply) past e u = rw e refl
 end-acts terms ask request t (Reply Missing) past e u = rw e refl
-end-acts terms ask request t (Reply (Locked other age)) past e u = rw e refl
+end-acts terms ask request t (Reply (Locked other age since)) past e u = rw e refl
 end-acts terms ask request t answer past e u = rw e refl
 
 end-knows : (terms : Terms) (ask : Ask) (locked : ℕ) (answer : Heard) (past : List Event)
     → Knows terms ask locked (end_answered answer) past
 end-knows terms ask locked (Reply done_reply) past = tt
 end-knows terms ask locked (Reply Missing) past = tt
-end-knows terms ask locked (Reply (Locked other age)) past = tt
+end-knows terms ask locked (Reply (Locked other age since)) past = tt
 end-knows terms ask locked answer past = tt
 
 -- a visit keeps its terms
@@ -191,7 +191,7 @@ forced-terms : (visit : VisitState) (answer : Heard)
     → (hears_release visit answer).terms ≡ visit.terms
 forced-terms visit (Reply done_reply) = refl
 forced-terms visit (Reply Missing) = refl
-forced-terms visit (Reply (Locked cookie age)) = refl
+forced-terms visit (Reply (Locked cookie age since)) = refl
 forced-terms visit answer = refl
 
 -- what a visit sends that asks for the session

@@ -1,5 +1,5 @@
 -- When a visit releases a lock before its page's end.
-use Rattle.std.proofs.Common.{◌≡◌, ◌≢◌, ◌<◌, ◌⊎◌, inl, inr, ℕ, ◌+◌, List, [], ◌∷◌, ◌++◌, Bool, true, false, refl, sym, ◌∙◌, ap, arith}
+use Rattle.std.proofs.Common.{Option, ◌≡◌, ◌≢◌, ◌<◌, ◌⊎◌, inl, inr, ℕ, ◌+◌, List, [], ◌∷◌, ◌++◌, Bool, true, false, refl, sym, ◌∙◌, ap, arith}
 use Rattle.std.specs.Prelude.{nat_le, nat_lt, reverse, Some, None, ◌||◌, if◌then◌else◌}
 use Rattle.std.proofs.lemmas.List.{reverse-append, reverse-reverse}
 use Rattle.std.proofs.lemmas.Bool.Decides.{nat_tests}
@@ -132,10 +132,10 @@ answer-asks : (terms : Terms) (count u : ℕ) (ask : Ask) (answer : Heard) (t : 
 answer-asks terms count u Acquire (Reply (Found body minutes None first)) t request e = absurd cc
 answer-asks terms count u Acquire (Reply (Found body minutes (Some cookie) first)) t request e =
     absurd cc
-answer-asks terms count u Acquire (Reply (Locked cookie age)) t request e =
+answer-asks terms count u Acquire (Reply (Locked cookie age since)) t request e =
     branch-asks terms _ _ _ cookie age _ request e
 answer-asks terms count u Acquire answer t request e = absurd cc
-answer-asks terms count u Read (Reply (Locked cookie age)) t request e =
+answer-asks terms count u Read (Reply (Locked cookie age since)) t request e =
     branch-asks terms _ _ _ cookie age _ request e
 answer-asks terms count u Read answer t request e = absurd cc
 answer-asks terms count u Reset (Reply done_reply) t request e = absurd cc
@@ -143,7 +143,7 @@ answer-asks terms count u Reset (Reply Missing) t request e = absurd cc
 answer-asks terms count u Reset answer t request e = absurd cc
 answer-asks terms count u (Release cookie) (Reply done_reply) t request e = inl (send-inj _ _ e)
 answer-asks terms count u (Release cookie) (Reply Missing) t request e = inl (send-inj _ _ e)
-answer-asks terms count u (Release cookie) (Reply (Locked other age)) t request e =
+answer-asks terms count u (Release cookie) (Reply (Locked other age since)) t request e =
     inl (send-inj _ _ e)
 answer-asks terms count u (Release cookie) answer t request e = absurd cc
 answer-asks terms count u (Write body minutes fresh cookie) answer t request e =
@@ -166,21 +166,22 @@ pub record Met (terms : Terms) (past : List Event) (cookie : ℕ) : Type 0 where
   pub earlier : List Event
   pub moment : ℕ
   pub age : ℕ
+  pub since : Option ℕ
   pub last : past ≡ heard moment (record { key = terms.key; ask = ask_for terms.need })
-      (Reply (Locked cookie age)) ∷ earlier
+      (Reply (Locked cookie age since)) ∷ earlier
   pub old : terms.limits.execution_secs < age
   pub polls_left : locked_answers past < terms.limits.polls
 
 -- an own ask that met a lock asked for the session
 own-ask : (terms : Terms) (request : Request) → Asked terms request → (age cookie : ℕ)
-    → is_locked_ask request.ask (Reply (Locked cookie age)) ≡ true
+    → (since : Option ℕ) → is_locked_ask request.ask (Reply (Locked cookie age since)) ≡ true
     → (request ≡ record { key = terms.key; ask = ask_for terms.need }) × (terms.need ≢ Off)
-own-ask terms request (inl is) age cookie locked = (
+own-ask terms request (inl is) age cookie since locked = (
   is,
   λ e. let asks : request.ask ≡ Reset = ap (λ (r : Request). r.ask) is ∙ ap ask_for e in
       let never : false ≡ true = rw asks at locked in cc,
 )
-own-ask terms request (inr (other, is)) age cookie locked = let never : false ≡ true =
+own-ask terms request (inr (other, is)) age cookie since locked = let never : false ≡ true =
     rw is at locked in absurd cc
 
 not_le : (a b : ℕ) → nat_le a b ≡ false → b < a
@@ -196,14 +197,14 @@ lt-true : (a b : ℕ) → a < b → nat_lt a b ≡ true
 lt-true a b h = grind (arith, nat_tests)
 
 locked-met : (terms : Terms) (past : List Event) (u t : ℕ) (request : Request)
-    (found age cookie : ℕ) → Asked terms request
-    → is_locked_ask request.ask (Reply (Locked found age)) ≡ true
+    (found age cookie : ℕ) (since : Option ℕ) → Asked terms request
+    → is_locked_ask request.ask (Reply (Locked found age since)) ≡ true
     → after_locked terms (locked_answers past + 1) u found age t ≡ send_ask terms (Release cookie)
-    → Met terms (heard u request (Reply (Locked found age)) ∷ past) cookie
-locked-met terms past u t request found age cookie asked locked e =
+    → Met terms (heard u request (Reply (Locked found age since)) ∷ past) cookie
+locked-met terms past u t request found age cookie since asked locked e =
     let own : (request ≡ record { key = terms.key; ask = ask_for terms.need })
     × (terms.need ≢ Off) =
-    own-ask terms request asked age found locked in
+    own-ask terms request asked age found since locked in
     let tests : (nat_le terms.limits.polls (locked_answers past + 1) ≡ false)
     × (nat_lt terms.limits.execution_secs age ≡ true) × (found ≡ cookie) =
     branch-release terms _ _ _ found age _ cookie e in
@@ -212,6 +213,7 @@ locked-met terms past u t request found age cookie asked locked e =
       earlier = past;
       moment = u;
       age = age;
+      since = since;
       last =
           rw (own.0, tests.2) refl;
       old = is_lt _ _ tests.1;
@@ -227,13 +229,13 @@ answer-met terms past u t request Acquire (Reply (Found body minutes None first)
     e = absurd cc
 answer-met terms past u t request Acquire (Reply (Found body minutes (Some own) first)) cookie is
     asked e = absurd cc
-answer-met terms past u t request Acquire (Reply (Locked found age)) cookie is asked e =
-    let locked : is_locked_ask request.ask (Reply (Locked found age)) ≡ true = rw is refl in
-    locked-met terms past u t request found age cookie asked locked (rw locked at e)
+answer-met terms past u t request Acquire (Reply (Locked found age since)) cookie is asked e =
+    let locked : is_locked_ask request.ask (Reply (Locked found age since)) ≡ true = rw is refl in
+    locked-met terms past u t request found age cookie since asked locked (rw locked at e)
 answer-met terms past u t request Acquire answer cookie is asked e = absurd cc
-answer-met terms past u t request Read (Reply (Locked found age)) cookie is asked e =
-    let locked : is_locked_ask request.ask (Reply (Locked found age)) ≡ true = rw is refl in
-    locked-met terms past u t request found age cookie asked locked (rw locked at e)
+answer-met terms past u t request Read (Reply (Locked found age since)) cookie is asked e =
+    let locked : is_locked_ask request.ask (Reply (Locked found age since)) ≡ true = rw is refl in
+    locked-met terms past u t request found age cookie since asked locked (rw locked at e)
 answer-met terms past u t request Read answer cookie is asked e = absurd cc
 answer-met terms past u t request Reset (Reply done_reply) cookie is asked e = absurd cc
 answer-met terms past u t request Reset (Reply Missing) cookie is asked e = absurd cc
@@ -242,7 +244,7 @@ answer-met terms past u t request (Release own) (Reply done_reply) cookie is ask
     absurd (asks-no_release terms cookie e)
 answer-met terms past u t request (Release own) (Reply Missing) cookie is asked e =
     absurd (asks-no_release terms cookie e)
-answer-met terms past u t request (Release own) (Reply (Locked found age)) cookie is asked e =
+answer-met terms past u t request (Release own) (Reply (Locked found age since)) cookie is asked e =
     absurd (asks-no_release terms cookie e)
 answer-met terms past u t request (Release own) answer cookie is asked e = absurd cc
 answer-met terms past u t request (Write body minutes fresh own) answer cookie is asked e =
@@ -264,24 +266,24 @@ met-of terms (lost ∷ past) t cookie follows not_ended e =
 
 -- after such an event a release is sent
 met-acts : (key : List ℕ) (need : Need) (limits : Limits) (earlier : List Event)
-    (moment age t cookie : ℕ) → need ≢ Off → has_ended earlier ≡ false → limits.execution_secs < age
+    (moment age t cookie : ℕ) (since : Option ℕ) → need ≢ Off → has_ended earlier ≡ false → limits.execution_secs < age
     →
     (let terms : Terms = record { key = key; need = need; limits = limits } in
     let past : List Event = heard moment (record { key = key; ask = ask_for need })
-    (Reply (Locked cookie age)) ∷ earlier in
+    (Reply (Locked cookie age since)) ∷ earlier in
     locked_answers past < limits.polls → act_after terms past t ≡ send_ask terms (Release cookie))
-met-acts key Exclusive limits earlier moment age t cookie content not_ended old left =
+met-acts key Exclusive limits earlier moment age t cookie since content not_ended old left =
     rw (not_ended, le-false _ _ left, lt-true _ _ old) refl
-met-acts key ReadOnly limits earlier moment age t cookie content not_ended old left =
+met-acts key ReadOnly limits earlier moment age t cookie since content not_ended old left =
     rw (not_ended, le-false _ _ left, lt-true _ _ old) refl
-met-acts key Off limits earlier moment age t cookie content not_ended old left =
+met-acts key Off limits earlier moment age t cookie since content not_ended old left =
     absurd (content refl)
 
 release-of : (terms : Terms) (past : List Event) (t cookie : ℕ) → has_ended past ≡ false
     → Met terms past cookie → act_after terms past t ≡ send_ask terms (Release cookie)
 release-of terms past t cookie not_ended met =
     rw met.last (met-acts terms.key terms.need terms.limits met.earlier met.moment met.age t cookie
-    met.content (rw met.last at not_ended) met.old (rw met.last at met.polls_left))
+    met.since met.content (rw met.last at not_ended) met.old (rw met.last at met.polls_left))
 
 pub releases : (terms : Terms) (past : List Event) (t cookie : ℕ) → IsLawful terms past
     → has_ended past ≡ false → act_of terms past t ≡ send_ask terms (Release cookie)
@@ -293,8 +295,8 @@ releases terms past t cookie lawful not_ended e =
       content = met.content;
       earlier = reverse met.earlier;
       moment = met.moment;
-      age =
-          met.age;
+      age = met.age;
+      since = met.since;
       last = sym (reverse-reverse past) ∙ ap reverse met.last
           ∙ reverse-cons _ met.earlier;
       old = met.old;
@@ -310,8 +312,8 @@ released terms past t cookie not_ended met =
       content = met.content;
       earlier = reverse met.earlier;
       moment = met.moment;
-      age =
-          met.age;
+      age = met.age;
+      since = met.since;
       last = ap reverse met.last ∙ reverse-append met.earlier (_ ∷ []);
       old =
           met.old;

@@ -49,7 +49,7 @@ answered-steps k (Remove cookie) answer u = omega (arith, refused-steps k answer
 end_answered-steps : (k : ℕ) (answer : Heard) (u : ℕ) → stage_steps k (end_answered answer) u < 1
 end_answered-steps k (Reply done_reply) u = omega arith
 end_answered-steps k (Reply Missing) u = omega arith
-end_answered-steps k (Reply (Locked cookie age)) u = omega arith
+end_answered-steps k (Reply (Locked cookie age since)) u = omega arith
 end_answered-steps k answer u = omega arith
 
 locked-steps : (visit : VisitState) (t u : ℕ) (lock : Lock) (used_up old : Bool)
@@ -76,7 +76,7 @@ forced-steps : (visit : VisitState) (u : ℕ) (answer : Heard)
     → steps_left (hears_release visit answer) u < 3 * (visit.terms.limits.polls - visit.locked) + 3
 forced-steps visit u (Reply done_reply) = omega (arith, no_wait u)
 forced-steps visit u (Reply Missing) = omega (arith, no_wait u)
-forced-steps visit u (Reply (Locked cookie age)) = omega (arith, no_wait u)
+forced-steps visit u (Reply (Locked cookie age since)) = omega (arith, no_wait u)
 forced-steps visit u answer = omega arith
 
 pub hears-steps : (visit : VisitState) (t u : ℕ) (stage : Stage) (answer : Heard)

@@ -29,8 +29,8 @@ pub data Event : Type 0 where
 
 -- an ask for the session was answered that a lock is in the way
 abbrev pub is_locked_ask : Ask → Heard → Bool
-is_locked_ask Acquire (Reply (Locked cookie age)) = true
-is_locked_ask Read (Reply (Locked cookie age)) = true
+is_locked_ask Acquire (Reply (Locked cookie age since)) = true
+is_locked_ask Read (Reply (Locked cookie age since)) = true
 is_locked_ask ask answer = false
 
 -- how many asks for the session were answered so
@@ -101,17 +101,17 @@ abbrev pub after_answer : Terms → ℕ → ℕ → Ask → Heard → ℕ → Ac
 after_answer terms count u Acquire (Reply (Found body minutes (Some cookie) first)) t =
     run (Some body) first
 after_answer terms count u Acquire (Reply Missing) t = run None false
-after_answer terms count u Acquire (Reply (Locked cookie age)) t =
+after_answer terms count u Acquire (Reply (Locked cookie age since)) t =
     after_locked terms count u cookie age t
 after_answer terms count u Read (Reply (Found body minutes cookie first)) t = run (Some body) first
 after_answer terms count u Read (Reply Missing) t = run None false
-after_answer terms count u Read (Reply (Locked cookie age)) t =
+after_answer terms count u Read (Reply (Locked cookie age since)) t =
     after_locked terms count u cookie age t
 after_answer terms count u Reset (Reply done_reply) t = over Done
 after_answer terms count u Reset (Reply Missing) t = over Done
 after_answer terms count u (Release own) (Reply done_reply) t = send_ask terms (ask_for terms.need)
 after_answer terms count u (Release own) (Reply Missing) t = send_ask terms (ask_for terms.need)
-after_answer terms count u (Release own) (Reply (Locked cookie age)) t =
+after_answer terms count u (Release own) (Reply (Locked cookie age since)) t =
     send_ask terms (ask_for terms.need)
 after_answer terms count u ask answer t = refused answer
 
@@ -132,7 +132,7 @@ at_end terms (Some ask) = send_ask terms ask
 abbrev pub after_end : Heard → Action
 after_end (Reply done_reply) = over Done
 after_end (Reply Missing) = over LostMissing
-after_end (Reply (Locked cookie age)) = over (LostLocked cookie age)
+after_end (Reply (Locked cookie age since)) = over (LostLocked cookie age)
 after_end answer = refused answer
 
 -- a visit that is over stays so
@@ -183,7 +183,8 @@ pub record MeetsOldLock (terms : Terms) (past : List Event) (cookie : ℕ) : Typ
   pub earlier : List Event
   pub moment : ℕ
   pub age : ℕ
+  pub since : Option ℕ
   pub last : past ≡ earlier ++ heard moment (record { key = terms.key; ask = ask_for terms.need })
-      (Reply (Locked cookie age)) ∷ []
+      (Reply (Locked cookie age since)) ∷ []
   pub old : terms.limits.execution_secs < age
   pub polls_left : locked_answers past < terms.limits.polls

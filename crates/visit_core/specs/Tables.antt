@@ -28,8 +28,8 @@ LockFits lock = (lock.cookie < 2 ^ 63) × (lock.age ≤ 2 ^ 62)
 
 -- the lock that the answer to an ask for the session names
 abbrev pub lock_met : Ask → Heard → Option Lock
-lock_met Acquire (Reply (Locked cookie age)) = Some (record { cookie = cookie; age = age })
-lock_met Read (Reply (Locked cookie age)) = Some (record { cookie = cookie; age = age })
+lock_met Acquire (Reply (Locked cookie age since)) = Some (record { cookie = cookie; age = age })
+lock_met Read (Reply (Locked cookie age since)) = Some (record { cookie = cookie; age = age })
 lock_met ask answer = None
 
 -- an ask for the session met a lock: the polls are used up, or the lock is too old, or the visit
@@ -72,14 +72,14 @@ hears_answer visit t answer None = record visit { stage = answered visit.ask ans
 abbrev pub hears_release : VisitState → Heard → VisitState
 hears_release visit (Reply done_reply) = asks_from visit 0
 hears_release visit (Reply Missing) = asks_from visit 0
-hears_release visit (Reply (Locked cookie age)) = asks_from visit 0
+hears_release visit (Reply (Locked cookie age since)) = asks_from visit 0
 hears_release visit answer = record visit { stage = refused answer }
 
 -- where an answer to the request of the page's end leads
 abbrev pub end_answered : Heard → Stage
 end_answered (Reply done_reply) = Over Done
 end_answered (Reply Missing) = Over LostMissing
-end_answered (Reply (Locked cookie age)) = Over (LostLocked cookie age)
+end_answered (Reply (Locked cookie age since)) = Over (LostLocked cookie age)
 end_answered answer = refused answer
 
 -- an answer, by the stage that sent its request

@@ -44,10 +44,12 @@ impl Lock {
         ensures fits { IfSome result LockFits }
     {
         match (ask, answer) {
-            (Ask::Acquire | Ask::Read, Heard::Reply(Reply::Locked { cookie, age })) => Some(Lock {
-                cookie: *cookie,
-                age: *age,
-            }),
+            (Ask::Acquire | Ask::Read, Heard::Reply(Reply::Locked { cookie, age, .. })) => {
+                Some(Lock {
+                    cookie: *cookie,
+                    age: *age,
+                })
+            }
             _ => None,
         }
     }
@@ -118,7 +120,7 @@ impl Stage {
         match answer {
             Heard::Reply(Reply::Done) => Stage::Over(Outcome::Done),
             Heard::Reply(Reply::Missing) => Stage::Over(Outcome::LostMissing),
-            Heard::Reply(Reply::Locked { cookie, age }) => {
+            Heard::Reply(Reply::Locked { cookie, age, .. }) => {
                 Stage::Over(Outcome::LostLocked { cookie, age })
             }
             answer => Stage::refused(answer),

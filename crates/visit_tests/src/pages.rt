@@ -54,6 +54,7 @@ fn reply(alloc: Global, event: Event) -> Result<Option<Reply>, NoMemory>
         Locked(cookie, age) => Reply::Locked {
             cookie: cookie as u64,
             age: age as u64,
+            since: None,
         },
         Bad => Reply::Bad,
         KeeperFault => Reply::KeeperFault,

@@ -148,7 +148,14 @@ fn replies_have_their_plain_spelling(rt: HostRuntime) -> Result<(), Fail> {
         (found, b">found 1 20 0 x616263".as_slice()),
         (fresh, b">found 0 1 1 x"),
         (Reply::Done, b">done"),
-        (Reply::Locked { cookie: 2, age: 0 }, b">locked 2 0"),
+        (
+            Reply::Locked {
+                cookie: 2,
+                age: 0,
+                since: None,
+            },
+            b">locked 2 0",
+        ),
         (Reply::Missing, b">missing"),
         (Reply::Bad, b">bad"),
         (Reply::KeeperFault, b">keeper-fault"),

@@ -142,10 +142,15 @@ const CONTENTS: [(&[u8], u64, u64, bool); 4] = [
 fn plain_reply(number: u8) -> Reply {
     match number {
         0 => Reply::Done,
-        1 => Reply::Locked { cookie: 0, age: 0 },
+        1 => Reply::Locked {
+            cookie: 0,
+            age: 0,
+            since: None,
+        },
         2 => Reply::Locked {
             cookie: LAST_COOKIE,
             age: LAST_AGE,
+            since: Some(1 << 62),
         },
         3 => Reply::Missing,
         4 => Reply::Bad,

@@ -16,13 +16,13 @@ returns-clause-replay g c = (
 )
 
 pub returns-clause-judged : goal.returns-clause-judged
-returns-clause-judged g c = λ place list tells read write.
-    subst (λ (n : ℕ). IsStatusOf n place list) (sym c.status.ensures)
+returns-clause-judged g c = λ profile place list tells read write.
+    subst (λ (n : ℕ). IsStatusOf n profile place list) (sym c.status.ensures)
     (judged-complete c.args.most c.new-replayer.result c.run.new.consumer
     (flow (g.S.Source.told c.args.source.now) (g.S.Source.told c.run.new.source)
     (g.T.Sink.taken c.args.sink.now) (g.T.Sink.taken c.run.new.sink))
     (g.S.Source.told c.args.source.now) c.run.result
-    (c.run.ensures.complete read write) place list tells)
+    (c.run.ensures.complete read write) profile place list tells)
 
 pub returns-clause-refused : goal.returns-clause-refused
 returns-clause-refused g c = λ tells read write.

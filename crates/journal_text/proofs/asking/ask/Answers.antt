@@ -20,10 +20,10 @@ returns-in-Item-clause-asked c =
       drawn = c.args.drawn;
       rose = c.args.rose;
     } in
-    asked-item c.args.items.now c.args.request c.in-Some.item.now new at
+    asked-item c.args.profile c.args.items.now c.args.request c.in-Some.item.now new at
     c.args.reply c.in-Some.ensures.value (c.get_mut.follows.lender new)
     ((c.get_mut.follows.holds new).3 (some-there _ _ c.in-Some.ensures.value))
-    (subst (Leaves c.in-Some.item.now new c.args.request at c.args.reply)
+    (subst (Leaves c.args.profile c.in-Some.item.now new c.args.request at c.args.reply)
     c.in-Item.is c.in_ok-why.ensures.left)
 
 pub returns-in-Nothing-clause-asked : goal.returns-in-Nothing-clause-asked
@@ -34,10 +34,10 @@ returns-in-Nothing-clause-asked c =
       drawn = c.args.drawn;
       rose = c.args.rose;
     } in
-    asked-nothing c.args.items.now c.args.request c.in-Some.item.now new at
+    asked-nothing c.args.profile c.args.items.now c.args.request c.in-Some.item.now new at
     c.args.reply c.in-Some.ensures.value (c.get_mut.follows.lender new)
     c.remove.new.self c.in-Nothing.key ((c.get_mut.follows.holds new).3
     (some-there _ _ c.in-Some.ensures.value))
-    (subst (Leaves c.in-Some.item.now new c.args.request at c.args.reply)
+    (subst (Leaves c.args.profile c.in-Some.item.now new c.args.request at c.args.reply)
     c.in-Nothing.is c.in_ok-why.ensures.left)
     c.remove.ensures.updates

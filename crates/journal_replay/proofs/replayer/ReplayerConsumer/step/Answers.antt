@@ -6,16 +6,17 @@ use Rattle.journal_replay.proofs.replayer.ReplayerConsumer.step.Goals as goal
 pub take-requires-clause-few : goal.take-requires-clause-few
 take-requires-clause-few c =
     let short = c.requires.short in
-    few_taken short.1 c.args.self.now.reader c.args.self.now.checker short.3.0 short.4
-    c.in-Entry.ensures.entry.1
+    let took = c.in-Entry.ensures.entry in
+    few_taken short.1 c.args.self.now.reader c.args.self.now.checker took.profile short.3.0 short.4
+    took.started
 
 pub returns-in-Head-clause-did : goal.returns-in-Head-clause-did
 returns-in-Head-clause-did c = λ is first taken due went.
     let took = c.in-Head.ensures.head in (
       (
-        head_at taken c.in-Head.place c.args.self.now.reader c.next.new.self c.args.self.now.checker
+        head_at taken c.in-Head.profile c.in-Head.place c.args.self.now.reader c.next.new.self c.args.self.now.checker
             c.new.result took.1 went.0 (c.in-Head.ensures.reads taken) took.2.is_whole
-            c.new.ensures.first c.new.ensures.taken,
+            c.new.ensures.profile c.new.ensures.first c.new.ensures.taken,
         none_more due c.args.self.now.line.items went.1 went.2,
         went.2,
       ),
@@ -29,8 +30,8 @@ returns-in-Ok-clause-did c = λ is first taken due went.
       (
         entry_at taken c.in-Entry.entry c.args.self.now.reader c.next.new.self
             c.args.self.now.checker
-            c.take.new.self took.1 went.0 (c.in-Entry.ensures.reads taken) took.2.is_whole
-            c.in-Ok.ensures.first c.in-Ok.ensures.taken,
+            c.take.new.self took.profile took.started went.0 (c.in-Entry.ensures.reads taken)
+            took.takes.is_whole c.in-Ok.ensures.profile c.in-Ok.ensures.first c.in-Ok.ensures.taken,
         none_more due c.args.self.now.line.items went.1 went.2,
         went.2,
       ),
