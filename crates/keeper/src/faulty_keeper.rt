@@ -5,7 +5,7 @@ ghost use Rattle.asp_messages.specs.Ranges.{KeyFits};
 ghost use Rattle.session_machine.specs.Liveness.{ItemFits};
 ghost use Rattle.keeper.specs.Due.{TellsDue};
 ghost use Rattle.keeper.specs.Faulty.{FailsListed, FloorStays, HasCauseInAll, faults_of, told_inside};
-ghost use Rattle.keeper.specs.Items.{TellsItem, TellsSets};
+ghost use Rattle.keeper.specs.Items.{StillTells, TellsItem, TellsSets};
 
 use crate::{KeepError, Keeper};
 use asp_base::Bytes;
@@ -84,10 +84,10 @@ impl<K: Keeper> Keeper for FaultyKeeper<K> {
     fn get(&mut self, key: &Bytes) -> Result<Option<Item>, KeepError>
         requires { KeyFits key.now }
         ensures item { IfOk result
-            (TellsItem (told_inside ⟦<K as Keeper>⟧ self.old) key.now) }
+            (TellsItem (told_inside ⟦<K as Keeper>⟧ self.new) key.now) }
         ensures fits { IfOk result (λ item. IfSome item ItemFits) }
-        ensures same { told_inside ⟦<K as Keeper>⟧ self.new
-            ≡ told_inside ⟦<K as Keeper>⟧ self.old }
+        ensures same { StillTells (told_inside ⟦<K as Keeper>⟧ self.old)
+            (told_inside ⟦<K as Keeper>⟧ self.new) }
         ensures floor { FloorStays ⟦<K as Keeper>⟧ self.old self.new }
         ensures cause { HasCauseInAll ⟦<K as Keeper>⟧ self.old self.new result }
         ensures failing { FailsListed ⟦<K as Keeper>⟧ self.old self.new result }
@@ -105,7 +105,8 @@ impl<K: Keeper> Keeper for FaultyKeeper<K> {
             (TellsSets (told_inside ⟦<K as Keeper>⟧ self.old)
             (told_inside ⟦<K as Keeper>⟧ self.new) key.now (Some item)) }
         ensures err { OnErr result
-            (told_inside ⟦<K as Keeper>⟧ self.new ≡ told_inside ⟦<K as Keeper>⟧ self.old) }
+            (StillTells (told_inside ⟦<K as Keeper>⟧ self.old)
+            (told_inside ⟦<K as Keeper>⟧ self.new)) }
         ensures floor { FloorStays ⟦<K as Keeper>⟧ self.old self.new }
         ensures cause { HasCauseInAll ⟦<K as Keeper>⟧ self.old self.new result }
         ensures failing { FailsListed ⟦<K as Keeper>⟧ self.old self.new result }
@@ -122,7 +123,8 @@ impl<K: Keeper> Keeper for FaultyKeeper<K> {
             (TellsSets (told_inside ⟦<K as Keeper>⟧ self.old)
             (told_inside ⟦<K as Keeper>⟧ self.new) key.now None) }
         ensures err { OnErr result
-            (told_inside ⟦<K as Keeper>⟧ self.new ≡ told_inside ⟦<K as Keeper>⟧ self.old) }
+            (StillTells (told_inside ⟦<K as Keeper>⟧ self.old)
+            (told_inside ⟦<K as Keeper>⟧ self.new)) }
         ensures floor { FloorStays ⟦<K as Keeper>⟧ self.old self.new }
         ensures cause { HasCauseInAll ⟦<K as Keeper>⟧ self.old self.new result }
         ensures failing { FailsListed ⟦<K as Keeper>⟧ self.old self.new result }
@@ -134,10 +136,10 @@ impl<K: Keeper> Keeper for FaultyKeeper<K> {
     }
 
     fn due(&mut self, t: u64) -> Result<Option<Bytes>, KeepError>
-        ensures due { IfOk result (TellsDue (told_inside ⟦<K as Keeper>⟧ self.old) t) }
+        ensures due { IfOk result (TellsDue (told_inside ⟦<K as Keeper>⟧ self.new) t) }
         ensures fits { IfOk result (λ key. IfSome key KeyFits) }
-        ensures same { told_inside ⟦<K as Keeper>⟧ self.new
-            ≡ told_inside ⟦<K as Keeper>⟧ self.old }
+        ensures same { StillTells (told_inside ⟦<K as Keeper>⟧ self.old)
+            (told_inside ⟦<K as Keeper>⟧ self.new) }
         ensures floor { FloorStays ⟦<K as Keeper>⟧ self.old self.new }
         ensures cause { HasCauseInAll ⟦<K as Keeper>⟧ self.old self.new result }
         ensures failing { FailsListed ⟦<K as Keeper>⟧ self.old self.new result }

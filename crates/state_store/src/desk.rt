@@ -6,7 +6,7 @@ ghost use Rattle.asp_messages.specs.Ranges.{RequestFits, ReplyFits};
 ghost use Rattle.session_machine.specs.declared.entry.Entry.{Entry as AnEntry};
 ghost use Rattle.session_machine.specs.History.{DrawFits, HasPlace};
 ghost use Rattle.cookie_source.specs.Source.{source_id, drawer_home};
-ghost use Rattle.shard_core.specs.Standing.{asked_entry};
+ghost use Rattle.shard_core.specs.Standing.{TellsSame, asked_entry};
 ghost use Rattle.shard_core.specs.Sweeping.{swept_entry};
 ghost use Rattle.turnstile.specs.Rule.{end_of_places};
 
@@ -148,7 +148,9 @@ impl<K: Keeper> Desk<K> {
             → HasEntries ⟦<K as Keeper>⟧ first
             (list ++ swept_entry caller t result.found result.faults ∷ []) self.new }
         ensures nothing { result.found ≡ Swept.Nothing
-            → HasDue ⟦<K as Keeper>⟧ self.old.shard t None }
+            → HasDue ⟦<K as Keeper>⟧ self.new.shard t None }
+        ensures unchanged { result.found ≡ Swept.Nothing
+            → TellsSame ⟦<K as Keeper>⟧ self.old.shard self.new.shard }
         ensures fault { result.found ≡ Swept.KeeperFault
             → Rose (K.count self.old.shard) result.faults }
     {
