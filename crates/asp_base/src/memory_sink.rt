@@ -1,6 +1,6 @@
 //! Sinks in memory: one that keeps its bytes and fails where it is told to, and one that only
 //! counts.
-ghost use Rattle.std.specs.Prelude.{◌≡◌, ◌<◌, ◌↔◌, ◌+◌, ◌-◌, [], length, min, Some, None, IfOk, IsOkAnd, IsErr, Contains, ◌^◌};
+ghost use Rattle.std.specs.Prelude.{◌≡◌, ◌<◌, ◌↔◌, ◌+◌, ◌-◌, [], length, min, Some, None, IfOk, IsOkAnd, IsErr, MatchResult, Contains, ◌^◌};
 ghost use Rattle.asp_base.specs.Causes.{HasCause};
 ghost use Rattle.asp_base.specs.InMemory.{one_more, write_count, FailsWrite};
 ghost use Rattle.asp_base.specs.Outside.{Writes};
@@ -100,6 +100,15 @@ impl Sink for MemorySink {
         ensures fails { IsErr result ↔ FailsWrite self.old piece.now }
         ensures count { IfOk result (λ n. n ≡ write_count self.old piece.now) }
         ensures calls { self.new.calls ≡ one_more self.old.calls }
+
+        // Each failure is counted, and nothing else is; the room shrinks by what is taken, and what
+        // it was made for stays.
+        ensures counted { MatchResult result (λ _. self.new.faults ≡ self.old.faults)
+            (λ _. self.new.faults ≡ one_more self.old.faults) }
+        ensures room { MatchResult result (λ n. self.new.room + n ≡ self.old.room)
+            (λ _. self.new.room ≡ self.old.room) }
+        ensures piece { self.new.piece ≡ self.old.piece }
+        ensures listed { self.new.fails ≡ self.old.fails }
     {
         let call = self.calls;
         self.calls = call.saturating_add(1);

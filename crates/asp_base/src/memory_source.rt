@@ -1,5 +1,5 @@
 //! Sources in memory: one that fails where it is told to, and one that never fails.
-ghost use Rattle.std.specs.Prelude.{◌≡◌, ◌+◌, ◌<◌, ◌≤◌, ◌↔◌, [], ◌++◌, length, take, drop, min, Some, IfOk, IsOkAnd, IsErr, Contains};
+ghost use Rattle.std.specs.Prelude.{◌≡◌, ◌+◌, ◌<◌, ◌≤◌, ◌↔◌, [], ◌++◌, length, take, drop, min, Some, IfOk, IsOkAnd, IsErr, MatchResult, Contains};
 ghost use Rattle.asp_base.specs.Causes.{HasCause};
 ghost use Rattle.asp_base.specs.InMemory.{one_more, read_count};
 ghost use Rattle.asp_base.specs.Outside.{Reads};
@@ -95,6 +95,12 @@ impl Source for MemorySource {
         ensures fails { IsErr result ↔ Contains self.old.fails self.old.calls }
         ensures count { IfOk result (λ n. n ≡ read_count self.old buf.old) }
         ensures calls { self.new.calls ≡ one_more self.old.calls }
+
+        // Each failure is counted, and nothing else is; what it was made for stays.
+        ensures counted { MatchResult result (λ _. self.new.faults ≡ self.old.faults)
+            (λ _. self.new.faults ≡ one_more self.old.faults) }
+        ensures piece { self.new.piece ≡ self.old.piece }
+        ensures listed { self.new.fails ≡ self.old.fails }
     {
         let call = self.calls;
         self.calls = call.saturating_add(1);
@@ -152,6 +158,7 @@ impl Source for SureSource {
         ensures cause { HasCause 0 0 result }
         ensures count { IsOkAnd result (λ n. n
             ≡ min (min (length buf.old) self.old.piece) (length self.old.left)) }
+        ensures piece { self.new.piece ≡ self.old.piece }
     {
         Ok(give(&self.text, &mut self.at, self.piece, buf))
     }

@@ -102,7 +102,7 @@ free-fits item t drawn Acquire le small some fits asks = (
     touched =
         omega (arith, fits.touched);
     ends = fits.ends;
-    cookie = small;
+    cookie = (some refl, small);
     since = le;
   },
 )
@@ -242,7 +242,7 @@ there-fits profile item None t drawn ask is le small some fits asks =
     free-fits item t drawn ask le small some fits asks
 there-fits profile item (Some hold) t drawn ask is le small some fits asks =
     held-fits profile item hold t ask le
-    (subst (λ o. IfSome o (λ h. h.cookie < 2 ^ 63)) is fits.cookie)
+    (subst (λ o. IfSome o (λ h. (0 < h.cookie) × (h.cookie < 2 ^ 63))) is fits.cookie).1
     (subst (λ o. IfSome o (λ h. h.since ≤ 2 ^ 62)) is fits.since) fits asks
 
 seen-fits : (old : Option Item) (t : ℕ) → IfSome old ItemFits → IfSome (seen old t) ItemFits

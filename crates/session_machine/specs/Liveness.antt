@@ -28,5 +28,5 @@ pub record ItemFits (item : Item) : Type 0 where
   pub minutes : item.minutes ≤ 525600
   pub touched : item.touched ≤ 2 ^ 62
   pub ends : item.ends < 2 ^ 63
-  pub cookie : IfSome item.holder (λ h. h.cookie < 2 ^ 63)
+  pub cookie : IfSome item.holder (λ h. (0 < h.cookie) × (h.cookie < 2 ^ 63))
   pub since : IfSome item.holder (λ h. h.since ≤ 2 ^ 62)
