@@ -13,12 +13,19 @@ import sqlite3
 import subprocess
 import sys
 import tempfile
+import time
 
 TOP = os.path.dirname(os.path.dirname(os.path.abspath(__file__)))
 PROGRAM = os.path.abspath(sys.argv[1]) if len(sys.argv) > 1 else os.path.join(TOP, "asp_state")
 WORDS = ["pipe", "0", "1000", "1"]
 DONE = b"HTTP/1.1 200 OK\r\nContent-Length: 0\r\n\r\n"
 NOBODY = 65534
+# As earlier versions made them, whose items had no end of their own.
+OLD_TABLE = (
+    "CREATE TABLE IF NOT EXISTS items (key BLOB PRIMARY KEY, body BLOB NOT NULL, minutes INTEGER NOT NULL, fresh INTEGER NOT NULL, "
+    "cookie INTEGER NOT NULL, since INTEGER NOT NULL, touched INTEGER NOT NULL, expiry INTEGER NOT NULL)"
+)
+OLD_INDEX = "CREATE INDEX IF NOT EXISTS items_by_expiry ON items (expiry, key)"
 
 
 def put(key, body):
@@ -62,12 +69,12 @@ def sqlite3_reads_and_writes(folder):
     """Debian's sqlite3 reads a row that was written, and writes one that the next run reads."""
     path = os.path.join(folder, "shared.db")
     wrote = run(path, put(b"a", b"x"))
-    columns = "hex(key), hex(body), minutes, fresh, cookie, since, touched, expiry"
-    row = statement(path, "SELECT %s FROM items" % columns)
-    said = statement(path, "INSERT INTO items VALUES (x'2f62', x'79', 20, 0, 0, 0, 0, 1200000)")
+    columns = "hex(key), hex(body), minutes, fresh, cookie, since, touched, ends, expiry"
+    row = statement(path, "SELECT %s FROM items2" % columns)
+    said = statement(path, "INSERT INTO items2 VALUES (x'2f62', x'79', 20, 0, 0, 0, 0, 86400000, 1200000)")
     read = run(path, get(b"b"))
     checked = statement(path, "PRAGMA integrity_check")
-    return wrote == (0, DONE) and row == "2F61|78|20|0|0|0|0|1200000" and said == "" and read == (0, found(b"y")) and checked == "ok"
+    return wrote == (0, DONE) and row == "2F61|78|20|0|0|0|0|86400000|1200000" and said == "" and read == (0, found(b"y")) and checked == "ok"
 
 
 def killed_run_keeps_its_replies(folder):
@@ -92,7 +99,7 @@ def killed_run_keeps_its_replies(folder):
     os.waitpid(feeder, 0)
     answered = len(replies) // len(DONE)
     status, text = run(path, b"".join(get(b"k%d" % k) for k in range(answered)))
-    kept = int(statement(path, "SELECT count(*) FROM items"))
+    kept = int(statement(path, "SELECT count(*) FROM items2"))
     print("  %d replies were read, %d rows are there" % (answered, kept))
     return status == 0 and 4000 <= answered <= kept < 10_000 and text == b"".join(found(b"v%d" % k) for k in range(answered))
 
@@ -105,7 +112,7 @@ def held_file_is_refused(folder):
     child.stdin.flush()
     first = child.stdout.read(len(DONE))
     second = run(path, get(b"a"))
-    said = statement(path, "SELECT count(*) FROM items")
+    said = statement(path, "SELECT count(*) FROM items2")
     child.stdin.write(get(b"a"))
     child.stdin.close()
     last = child.stdout.read()
@@ -144,6 +151,64 @@ def other_table_is_refused(folder):
     statement(path, "CREATE TABLE items (name TEXT); INSERT INTO items VALUES ('kept')")
     refused = run(path, put(b"a", b"x"))
     return refused == (10, b"") and statement(path, "SELECT name FROM items") == "kept"
+
+
+def old_file(path, count):
+    """A file as earlier versions wrote it, with so many items of 525,600 minutes that were touched at 0."""
+    connection = sqlite3.connect(path)
+    connection.execute(OLD_TABLE)
+    connection.execute(OLD_INDEX)
+    rows = ((b"/k%d" % k, b"v%d" % k, 525_600, 0, 0, 0, 0, 31_536_000_000) for k in range(count))
+    connection.executemany("INSERT INTO items VALUES (?1, ?2, ?3, ?4, ?5, ?6, ?7, ?8)", rows)
+    connection.commit()
+    connection.close()
+
+
+def long_found(body):
+    return found(body).replace(b"Timeout: 20", b"Timeout: 525600")
+
+
+def old_file_is_carried_on(folder):
+    """The rows of a file of earlier versions are moved, and have no end after a day."""
+    path = os.path.join(folder, "old.db")
+    old_file(path, 3)
+    ran = subprocess.run(
+        [PROGRAM, "pipe", "86400000", "1000", "1", path], input=b"".join(get(b"k%d" % k) for k in range(3)), stdout=subprocess.PIPE
+    )
+    rows = statement(path, "SELECT count(*) FROM items"), statement(path, "SELECT count(*), min(ends) FROM items2")
+    good = ran.returncode == 0 and ran.stdout == b"".join(long_found(b"v%d" % k) for k in range(3))
+    return good and rows == ("0", "3|9223372036854775807")
+
+
+def killed_move_loses_no_row(folder):
+    """A run is killed amid the move of 3,000 rows, again and again: each row is in one of the tables, and a last run has them all."""
+    path = os.path.join(folder, "moving.db")
+    old_file(path, 3_000)
+    good, seen = True, []
+    for pause in [0.05, 0.1, 0.2, 0.3, 0.5, 0.7]:
+        child = subprocess.Popen([PROGRAM, *WORDS, path], stdin=subprocess.PIPE, stdout=subprocess.DEVNULL)
+        time.sleep(pause)
+        child.send_signal(signal.SIGKILL)
+        child.wait()
+        there = statement(path, "SELECT count(*) FROM (SELECT key FROM items UNION SELECT key FROM items2)")
+        good = good and there == "3000"
+        seen.append(statement(path, "SELECT count(*) FROM items2"))
+    status, text = run(path, b"".join(get(b"k%d" % k) for k in range(3_000)))
+    print("  rows moved when the runs were killed: %s" % ", ".join(seen))
+    left = statement(path, "SELECT count(*) FROM items")
+    return good and status == 0 and left == "0" and text == b"".join(long_found(b"v%d" % k) for k in range(3_000))
+
+
+def old_row_that_is_no_item_is_refused(folder):
+    """A row of a file of earlier versions that is no item stays, with those behind it; without it the rest is moved."""
+    path = os.path.join(folder, "bad-row.db")
+    old_file(path, 3)
+    statement(path, "UPDATE items SET fresh = 2 WHERE key = x'2f6b31'")
+    refused = run(path, get(b"k0"))
+    rows = statement(path, "SELECT count(*) FROM items"), statement(path, "SELECT count(*) FROM items2")
+    statement(path, "DELETE FROM items WHERE key = x'2f6b31'")
+    mended = run(path, get(b"k0") + get(b"k2"))
+    return refused == (10, b"") and rows == ("2", "1") and mended == (0, long_found(b"v0") + long_found(b"v2"))
 
 
 def file_that_may_not_be_written_is_refused(folder):
@@ -191,6 +256,9 @@ CASES = [
     folder_is_refused,
     garbage_is_refused,
     other_table_is_refused,
+    old_file_is_carried_on,
+    killed_move_loses_no_row,
+    old_row_that_is_no_item_is_refused,
     file_that_may_not_be_written_is_refused,
     full_disk_loses_no_reply,
 ]

@@ -1,0 +1,212 @@
+//! A move that is refused on its way, over files: what was moved stays moved, and no row is lost.
+use crate::keepers::{number, run};
+use keeper::KeepError;
+use sqlite::{Connection, File, FileStore};
+use sqlite_keeper::SqliteKeeper;
+use std::fs;
+use std::test::Fail;
+
+/// The tables of a file with three old rows, of `/a`, `/b` and `/c`.
+const OLD_ROWS: [&str; 3] = [
+    "INSERT INTO items VALUES (x'2f61', x'78', 1, 0, 0, 0, 0, 60000)",
+    "INSERT INTO items VALUES (x'2f62', x'79', 2, 0, 0, 0, 0, 120000)",
+    "INSERT INTO items VALUES (x'2f63', x'7a', 1, 0, 0, 0, 0, 60000)",
+];
+
+const OLD_TABLE: &str = "CREATE TABLE items (key BLOB PRIMARY KEY, body BLOB NOT NULL, \
+    minutes INTEGER NOT NULL, fresh INTEGER NOT NULL, cookie INTEGER NOT NULL, \
+    since INTEGER NOT NULL, touched INTEGER NOT NULL, expiry INTEGER NOT NULL)";
+
+/// A new table that refuses the row of `/b`.
+const TABLE_OF_ONE_MINUTE: &str = "CREATE TABLE items2 (key BLOB PRIMARY KEY, \
+    body BLOB NOT NULL, minutes INTEGER NOT NULL CHECK (minutes < 2), \
+    fresh INTEGER NOT NULL, cookie INTEGER NOT NULL, since INTEGER NOT NULL, \
+    touched INTEGER NOT NULL, ends INTEGER NOT NULL, expiry INTEGER NOT NULL)";
+
+/// A new table in which no two rows have one content.
+const TABLE_OF_ONE_CONTENT: &str = "CREATE TABLE items2 (key BLOB PRIMARY KEY, \
+    body BLOB NOT NULL UNIQUE, minutes INTEGER NOT NULL, fresh INTEGER NOT NULL, \
+    cookie INTEGER NOT NULL, since INTEGER NOT NULL, touched INTEGER NOT NULL, \
+    ends INTEGER NOT NULL, expiry INTEGER NOT NULL)";
+
+/// A connection to the file of this name, which is made where it is absent.
+fn opened(rt: &HostRuntime, name: &str) -> Result<Connection<FileStore<File>>, Fail> {
+    Ok(Connection::open(rt, name)?)
+}
+
+/// Writes a new file by these statements.
+fn write(rt: &HostRuntime, name: &str, texts: &[&str]) -> Result<(), Fail> {
+    let mut connection = opened(rt, name)?;
+    for text in texts {
+        run(&mut connection, text)?;
+    }
+    Ok(())
+}
+
+/// Whether a keeper over the file is a fault.
+fn is_refused(rt: &HostRuntime, name: &str) -> Result<bool, Fail> {
+    let kept = SqliteKeeper::over(rt.alloc(), opened(rt, name)?);
+    Ok(matches!(kept, Err(KeepError::Fault)))
+}
+
+/// How many rows the file has in `items`, and how many in `items2`.
+fn rows(rt: &HostRuntime, name: &str) -> Result<(i64, i64), Fail> {
+    let mut connection = opened(rt, name)?;
+    let old = number(&mut connection, "SELECT count(*) FROM items")?;
+    let new = number(&mut connection, "SELECT count(*) FROM items2")?;
+    Ok((old, new))
+}
+
+/// Removes the file and its log.
+fn remove(rt: &HostRuntime, name: &str) -> Result<(), Fail> {
+    fs::remove_file(rt, name)?;
+    let mut log = String::from_str(rt.alloc(), name)?;
+    log.push_str("-wal")?;
+    fs::remove_file(rt, log.as_str())?;
+    Ok(())
+}
+
+#[test]
+fn row_that_may_not_be_written_stays(rt: HostRuntime) -> Result<(), Fail> {
+    let name = "unwritten.db";
+    write(&rt, name, &[OLD_TABLE, TABLE_OF_ONE_MINUTE])?;
+    write(&rt, name, &OLD_ROWS)?;
+    assert!(rt; is_refused(&rt, name)?);
+    assert_eq!(rt; rows(&rt, name)?, (2, 1));
+    // `/b` is still there.
+    let mut connection = opened(&rt, name)?;
+    let there = "SELECT count(*) FROM items WHERE key = x'2f62'";
+    assert_eq!(rt; number(&mut connection, there)?, 1);
+    drop(connection);
+    remove(&rt, name)
+}
+
+#[test]
+fn row_whose_content_is_taken_stays(rt: HostRuntime) -> Result<(), Fail> {
+    let name = "taken.db";
+    write(&rt, name, &[OLD_TABLE, TABLE_OF_ONE_CONTENT])?;
+    write(&rt, name, &OLD_ROWS)?;
+    write(
+        &rt,
+        name,
+        &["UPDATE items SET body = x'78' WHERE key = x'2f62'"],
+    )?;
+    assert!(rt; is_refused(&rt, name)?);
+    assert_eq!(rt; rows(&rt, name)?, (2, 1));
+    remove(&rt, name)
+}
+
+#[test]
+fn row_that_may_not_be_removed_stands_in_both(rt: HostRuntime) -> Result<(), Fail> {
+    let name = "kept.db";
+    write(&rt, name, &[OLD_TABLE])?;
+    write(&rt, name, &OLD_ROWS)?;
+    write(
+        &rt,
+        name,
+        &[
+            "CREATE TABLE visits (key BLOB REFERENCES items (key))",
+            "INSERT INTO visits VALUES (x'2f62')",
+        ],
+    )?;
+    assert!(rt; is_refused(&rt, name)?);
+    assert_eq!(rt; rows(&rt, name)?, (2, 2));
+    write(&rt, name, &["DELETE FROM visits"])?;
+    assert!(rt; !is_refused(&rt, name)?);
+    assert_eq!(rt; rows(&rt, name)?, (0, 3));
+    remove(&rt, name)
+}
+
+/// The old rows have the columns `key`, `body`, `minutes`, `fresh`, `cookie`, `since`, `touched` and
+/// `expiry`. Beside each stands how many rows are moved before it.
+const BAD_ROWS: [(&str, i64); 8] = [
+    // No key: each comes before the keys that are bytes.
+    (
+        "INSERT INTO items VALUES (NULL, x'78', 1, 0, 0, 0, 0, 60000)",
+        0,
+    ),
+    (
+        "INSERT INTO items VALUES ('/b', x'78', 1, 0, 0, 0, 0, 60000)",
+        0,
+    ),
+    (
+        "INSERT INTO items VALUES (x'', x'78', 1, 0, 0, 0, 0, 60000)",
+        0,
+    ),
+    // Minutes out of range, a flag that is unknown, a lock with no cookie, a touch past the last
+    // moment, and a wrong expiry.
+    (
+        "INSERT INTO items VALUES (x'2f6161', x'78', 0, 0, 0, 0, 0, 0)",
+        1,
+    ),
+    (
+        "INSERT INTO items VALUES (x'2f6161', x'78', 1, 2, 0, 0, 0, 60000)",
+        1,
+    ),
+    (
+        "INSERT INTO items VALUES (x'2f6262', x'78', 1, 0, 0, 1, 0, 60000)",
+        2,
+    ),
+    (
+        "INSERT INTO items VALUES (x'2f6262', x'78', 1, 0, 0, 0, 4611686018427387905, \
+            4611686018427447905)",
+        2,
+    ),
+    (
+        "INSERT INTO items VALUES (x'2f6363', x'78', 1, 0, 0, 0, 0, 60001)",
+        3,
+    ),
+];
+
+#[test]
+fn old_row_that_is_no_item_stays(rt: HostRuntime) -> Result<(), Fail> {
+    let name = "bad.db";
+    for (text, moved) in BAD_ROWS {
+        write(&rt, name, &[OLD_TABLE, text])?;
+        write(&rt, name, &OLD_ROWS)?;
+        assert!(rt; is_refused(&rt, name)?, "at {text}");
+        assert_eq!(rt; rows(&rt, name)?, (4 - moved, moved), "at {text}");
+        assert!(rt; is_refused(&rt, name)?, "again at {text}");
+        remove(&rt, name)?;
+    }
+    Ok(())
+}
+
+/// Tables `items` of another form: one column, no rule for its key, one column more, a view.
+const OTHER_FORMS: [&str; 4] = [
+    "CREATE TABLE items (key BLOB PRIMARY KEY)",
+    "CREATE TABLE items (key BLOB, body BLOB, minutes INTEGER, fresh INTEGER, \
+        cookie INTEGER, since INTEGER, touched INTEGER, expiry INTEGER)",
+    "CREATE TABLE items (key BLOB PRIMARY KEY, body BLOB, minutes INTEGER, fresh INTEGER, \
+        cookie INTEGER, since INTEGER, touched INTEGER, expiry INTEGER, owner TEXT)",
+    "CREATE VIEW items AS SELECT 1 AS key, 2 AS expiry",
+];
+
+#[test]
+fn old_table_of_another_form_is_left_as_it_is(rt: HostRuntime) -> Result<(), Fail> {
+    let name = "other.db";
+    for text in OTHER_FORMS {
+        write(&rt, name, &[text])?;
+        assert!(rt; is_refused(&rt, name)?, "at {text}");
+        let mut connection = opened(&rt, name)?;
+        let made = "SELECT count(*) FROM sqlite_schema WHERE sql IS NOT NULL";
+        assert_eq!(rt; number(&mut connection, made)?, 1, "at {text}");
+        drop(connection);
+        remove(&rt, name)?;
+    }
+    Ok(())
+}
+
+#[test]
+fn no_row_is_moved_to_a_table_of_another_form(rt: HostRuntime) -> Result<(), Fail> {
+    let name = "unmoved.db";
+    write(
+        &rt,
+        name,
+        &[OLD_TABLE, "CREATE TABLE items2 (key BLOB PRIMARY KEY)"],
+    )?;
+    write(&rt, name, &OLD_ROWS)?;
+    assert!(rt; is_refused(&rt, name)?);
+    assert_eq!(rt; rows(&rt, name)?, (3, 0));
+    remove(&rt, name)
+}
