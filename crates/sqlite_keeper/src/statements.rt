@@ -47,8 +47,12 @@ const MOVE: &str = "INSERT INTO items2 \
 
 const DROP: &str = "DELETE FROM items WHERE key = ?1";
 
-/// Never run. It is understood only where `items` has just its eight columns and no two rows with
-/// one key, so that no row is lost where one is moved.
+/// Never run. It is understood only where `items2` has nine columns, which are those that the other
+/// statements name, and no two rows with one key.
+const FORM: &str = "INSERT INTO items2 VALUES (?1, ?2, ?3, ?4, ?5, ?6, ?7, ?8, ?9) \
+    ON CONFLICT (key) DO NOTHING";
+
+/// As `FORM`. So nothing but the row that was moved is lost where one is removed by its key.
 const OLD_FORM: &str = "INSERT INTO items VALUES (?1, ?2, ?3, ?4, ?5, ?6, ?7, ?8) \
     ON CONFLICT (key) DO NOTHING";
 
@@ -67,7 +71,7 @@ pub(crate) fn make<S: Alter>(connection: &mut Connection<S>) -> Result<(), Error
     understand(connection, &[FIRST, DROP, OLD_FORM])?;
     connection.execute(MAKE_OLD_INDEX, &[])?;
     connection.execute(MAKE_TABLE, &[])?;
-    understand(connection, &[GET, PUT, CUT, DUE, MOVE])?;
+    understand(connection, &[GET, PUT, CUT, DUE, MOVE, FORM])?;
     connection.execute(MAKE_INDEX, &[])?;
     Ok(())
 }

@@ -83,14 +83,25 @@ fn rows_out_of_range_are_counted_faults(rt: HostRuntime) -> Result<(), Fail> {
     Ok(())
 }
 
+/// Tables of another form: one column, a key that may stand twice, one column more, a view.
+const OTHER_FORMS: [&str; 8] = [
+    "CREATE TABLE items2 (key BLOB PRIMARY KEY)",
+    "CREATE TABLE items2 (key BLOB, body BLOB, minutes INTEGER, fresh INTEGER, \
+        cookie INTEGER, since INTEGER, touched INTEGER, ends INTEGER, expiry INTEGER)",
+    "CREATE TABLE items2 (key BLOB PRIMARY KEY, body BLOB, minutes INTEGER, fresh INTEGER, \
+        cookie INTEGER, since INTEGER, touched INTEGER, ends INTEGER, expiry INTEGER, owner TEXT)",
+    "CREATE VIEW items2 AS SELECT 1 AS key, 2 AS expiry",
+    "CREATE TABLE items (key BLOB PRIMARY KEY)",
+    "CREATE TABLE items (key BLOB, body BLOB, minutes INTEGER, fresh INTEGER, \
+        cookie INTEGER, since INTEGER, touched INTEGER, expiry INTEGER)",
+    "CREATE TABLE items (key BLOB PRIMARY KEY, body BLOB, minutes INTEGER, fresh INTEGER, \
+        cookie INTEGER, since INTEGER, touched INTEGER, expiry INTEGER, owner TEXT)",
+    "CREATE VIEW items AS SELECT 1 AS key, 2 AS expiry",
+];
+
 #[test]
 fn tables_of_another_form_are_refused(rt: HostRuntime) -> Result<(), Fail> {
-    for text in [
-        "CREATE TABLE items2 (key BLOB PRIMARY KEY)",
-        "CREATE TABLE items2 (key BLOB, body BLOB, minutes INTEGER, fresh INTEGER, \
-            cookie INTEGER, since INTEGER, touched INTEGER, ends INTEGER, expiry INTEGER)",
-        "CREATE VIEW items2 AS SELECT 1 AS key, 2 AS expiry",
-    ] {
+    for text in OTHER_FORMS {
         let mut connection = Connection::open_in_memory(rt.alloc())?;
         connection.execute(text, &[])?;
         let refused = SqliteKeeper::over(rt.alloc(), connection);

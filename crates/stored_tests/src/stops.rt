@@ -6,7 +6,7 @@ use sqlite_keeper::SqliteKeeper;
 use std::fs;
 use std::test::Fail;
 
-/// The tables of a file with three old rows, of `/a`, `/b` and `/c`.
+/// Three old rows, of `/a`, `/b` and `/c`.
 const OLD_ROWS: [&str; 3] = [
     "INSERT INTO items VALUES (x'2f61', x'78', 1, 0, 0, 0, 0, 60000)",
     "INSERT INTO items VALUES (x'2f62', x'79', 2, 0, 0, 0, 0, 120000)",
@@ -69,8 +69,8 @@ fn remove(rt: &HostRuntime, name: &str) -> Result<(), Fail> {
 #[test]
 fn row_that_may_not_be_written_stays(rt: HostRuntime) -> Result<(), Fail> {
     let name = "unwritten.db";
-    write(&rt, name, &[OLD_TABLE, TABLE_OF_ONE_MINUTE])?;
-    write(&rt, name, &OLD_ROWS)?;
+    let [a, b, c] = OLD_ROWS;
+    write(&rt, name, &[OLD_TABLE, TABLE_OF_ONE_MINUTE, a, b, c])?;
     assert!(rt; is_refused(&rt, name)?);
     assert_eq!(rt; rows(&rt, name)?, (2, 1));
     // `/b` is still there.
@@ -84,13 +84,9 @@ fn row_that_may_not_be_written_stays(rt: HostRuntime) -> Result<(), Fail> {
 #[test]
 fn row_whose_content_is_taken_stays(rt: HostRuntime) -> Result<(), Fail> {
     let name = "taken.db";
-    write(&rt, name, &[OLD_TABLE, TABLE_OF_ONE_CONTENT])?;
-    write(&rt, name, &OLD_ROWS)?;
-    write(
-        &rt,
-        name,
-        &["UPDATE items SET body = x'78' WHERE key = x'2f62'"],
-    )?;
+    let [a, _, c] = OLD_ROWS;
+    let same = "INSERT INTO items VALUES (x'2f62', x'78', 2, 0, 0, 0, 0, 120000)";
+    write(&rt, name, &[OLD_TABLE, TABLE_OF_ONE_CONTENT, a, same, c])?;
     assert!(rt; is_refused(&rt, name)?);
     assert_eq!(rt; rows(&rt, name)?, (2, 1));
     remove(&rt, name)
@@ -99,16 +95,10 @@ fn row_whose_content_is_taken_stays(rt: HostRuntime) -> Result<(), Fail> {
 #[test]
 fn row_that_may_not_be_removed_stands_in_both(rt: HostRuntime) -> Result<(), Fail> {
     let name = "kept.db";
-    write(&rt, name, &[OLD_TABLE])?;
-    write(&rt, name, &OLD_ROWS)?;
-    write(
-        &rt,
-        name,
-        &[
-            "CREATE TABLE visits (key BLOB REFERENCES items (key))",
-            "INSERT INTO visits VALUES (x'2f62')",
-        ],
-    )?;
+    let [a, b, c] = OLD_ROWS;
+    let visits = "CREATE TABLE visits (key BLOB REFERENCES items (key))";
+    let visit = "INSERT INTO visits VALUES (x'2f62')";
+    write(&rt, name, &[OLD_TABLE, a, b, c, visits, visit])?;
     assert!(rt; is_refused(&rt, name)?);
     assert_eq!(rt; rows(&rt, name)?, (2, 2));
     write(&rt, name, &["DELETE FROM visits"])?;
@@ -117,40 +107,16 @@ fn row_that_may_not_be_removed_stands_in_both(rt: HostRuntime) -> Result<(), Fai
     remove(&rt, name)
 }
 
-/// The old rows have the columns `key`, `body`, `minutes`, `fresh`, `cookie`, `since`, `touched` and
-/// `expiry`. Beside each stands how many rows are moved before it.
-const BAD_ROWS: [(&str, i64); 8] = [
-    // No key: each comes before the keys that are bytes.
+/// An old row that is no item, and how many rows come before it in the order of keys. A row that has
+/// no key comes first, then one with a flag that is unknown, and one with a wrong expiry.
+const BAD_ROWS: [(&str, i64); 3] = [
     (
         "INSERT INTO items VALUES (NULL, x'78', 1, 0, 0, 0, 0, 60000)",
         0,
     ),
     (
-        "INSERT INTO items VALUES ('/b', x'78', 1, 0, 0, 0, 0, 60000)",
-        0,
-    ),
-    (
-        "INSERT INTO items VALUES (x'', x'78', 1, 0, 0, 0, 0, 60000)",
-        0,
-    ),
-    // Minutes out of range, a flag that is unknown, a lock with no cookie, a touch past the last
-    // moment, and a wrong expiry.
-    (
-        "INSERT INTO items VALUES (x'2f6161', x'78', 0, 0, 0, 0, 0, 0)",
-        1,
-    ),
-    (
         "INSERT INTO items VALUES (x'2f6161', x'78', 1, 2, 0, 0, 0, 60000)",
         1,
-    ),
-    (
-        "INSERT INTO items VALUES (x'2f6262', x'78', 1, 0, 0, 1, 0, 60000)",
-        2,
-    ),
-    (
-        "INSERT INTO items VALUES (x'2f6262', x'78', 1, 0, 0, 0, 4611686018427387905, \
-            4611686018427447905)",
-        2,
     ),
     (
         "INSERT INTO items VALUES (x'2f6363', x'78', 1, 0, 0, 0, 0, 60001)",
@@ -161,51 +127,36 @@ const BAD_ROWS: [(&str, i64); 8] = [
 #[test]
 fn old_row_that_is_no_item_stays(rt: HostRuntime) -> Result<(), Fail> {
     let name = "bad.db";
-    for (text, moved) in BAD_ROWS {
-        write(&rt, name, &[OLD_TABLE, text])?;
-        write(&rt, name, &OLD_ROWS)?;
+    let [a, b, c] = OLD_ROWS;
+    for (text, before) in BAD_ROWS {
+        write(&rt, name, &[OLD_TABLE, text, a, b, c])?;
         assert!(rt; is_refused(&rt, name)?, "at {text}");
-        assert_eq!(rt; rows(&rt, name)?, (4 - moved, moved), "at {text}");
-        assert!(rt; is_refused(&rt, name)?, "again at {text}");
+        assert_eq!(rt; rows(&rt, name)?, (4 - before, before), "at {text}");
         remove(&rt, name)?;
     }
     Ok(())
 }
 
-/// Tables `items` of another form: one column, no rule for its key, one column more, a view.
-const OTHER_FORMS: [&str; 4] = [
-    "CREATE TABLE items (key BLOB PRIMARY KEY)",
-    "CREATE TABLE items (key BLOB, body BLOB, minutes INTEGER, fresh INTEGER, \
-        cookie INTEGER, since INTEGER, touched INTEGER, expiry INTEGER)",
-    "CREATE TABLE items (key BLOB PRIMARY KEY, body BLOB, minutes INTEGER, fresh INTEGER, \
-        cookie INTEGER, since INTEGER, touched INTEGER, expiry INTEGER, owner TEXT)",
-    "CREATE VIEW items AS SELECT 1 AS key, 2 AS expiry",
-];
-
 #[test]
-fn old_table_of_another_form_is_left_as_it_is(rt: HostRuntime) -> Result<(), Fail> {
+fn file_with_a_table_of_another_form_is_left_as_it_is(rt: HostRuntime) -> Result<(), Fail> {
     let name = "other.db";
-    for text in OTHER_FORMS {
-        write(&rt, name, &[text])?;
-        assert!(rt; is_refused(&rt, name)?, "at {text}");
-        let mut connection = opened(&rt, name)?;
-        let made = "SELECT count(*) FROM sqlite_schema WHERE sql IS NOT NULL";
-        assert_eq!(rt; number(&mut connection, made)?, 1, "at {text}");
-        drop(connection);
-        remove(&rt, name)?;
-    }
-    Ok(())
+    let other = "CREATE TABLE items (key BLOB, body BLOB, minutes INTEGER, fresh INTEGER, \
+        cookie INTEGER, since INTEGER, touched INTEGER, expiry INTEGER)";
+    write(&rt, name, &[other])?;
+    assert!(rt; is_refused(&rt, name)?);
+    let mut connection = opened(&rt, name)?;
+    let made = "SELECT count(*) FROM sqlite_schema";
+    assert_eq!(rt; number(&mut connection, made)?, 1);
+    drop(connection);
+    remove(&rt, name)
 }
 
 #[test]
 fn no_row_is_moved_to_a_table_of_another_form(rt: HostRuntime) -> Result<(), Fail> {
     let name = "unmoved.db";
-    write(
-        &rt,
-        name,
-        &[OLD_TABLE, "CREATE TABLE items2 (key BLOB PRIMARY KEY)"],
-    )?;
-    write(&rt, name, &OLD_ROWS)?;
+    let [a, b, c] = OLD_ROWS;
+    let other = "CREATE TABLE items2 (key BLOB PRIMARY KEY)";
+    write(&rt, name, &[OLD_TABLE, other, a, b, c])?;
     assert!(rt; is_refused(&rt, name)?);
     assert_eq!(rt; rows(&rt, name)?, (3, 0));
     remove(&rt, name)
