@@ -62,12 +62,12 @@ def sqlite3_reads_and_writes(folder):
     """Debian's sqlite3 reads a row that was written, and writes one that the next run reads."""
     path = os.path.join(folder, "shared.db")
     wrote = run(path, put(b"a", b"x"))
-    columns = "hex(key), hex(body), minutes, fresh, cookie, since, touched, expiry, ends"
+    columns = "hex(key), hex(body), minutes, fresh, cookie, since, touched, ends, expiry"
     row = statement(path, "SELECT %s FROM items2" % columns)
-    said = statement(path, "INSERT INTO items2 VALUES (x'2f62', x'79', 20, 0, 0, 0, 0, 1200000, 86400000)")
+    said = statement(path, "INSERT INTO items2 VALUES (x'2f62', x'79', 20, 0, 0, 0, 0, 86400000, 1200000)")
     read = run(path, get(b"b"))
     checked = statement(path, "PRAGMA integrity_check")
-    return wrote == (0, DONE) and row == "2F61|78|20|0|0|0|0|1200000|86400000" and said == "" and read == (0, found(b"y")) and checked == "ok"
+    return wrote == (0, DONE) and row == "2F61|78|20|0|0|0|0|86400000|1200000" and said == "" and read == (0, found(b"y")) and checked == "ok"
 
 
 def killed_run_keeps_its_replies(folder):
