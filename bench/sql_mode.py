@@ -20,12 +20,6 @@ PROGRAM = os.path.abspath(sys.argv[1]) if len(sys.argv) > 1 else os.path.join(TO
 WORDS = ["pipe", "0", "1000", "1"]
 DONE = b"HTTP/1.1 200 OK\r\nContent-Length: 0\r\n\r\n"
 NOBODY = 65534
-# As earlier versions made them, whose items had no end of their own.
-OLD_TABLE = (
-    "CREATE TABLE IF NOT EXISTS items (key BLOB PRIMARY KEY, body BLOB NOT NULL, minutes INTEGER NOT NULL, fresh INTEGER NOT NULL, "
-    "cookie INTEGER NOT NULL, since INTEGER NOT NULL, touched INTEGER NOT NULL, expiry INTEGER NOT NULL)"
-)
-OLD_INDEX = "CREATE INDEX IF NOT EXISTS items_by_expiry ON items (expiry, key)"
 
 
 def put(key, body):
@@ -147,43 +141,41 @@ def garbage_is_refused(folder):
 
 
 def other_table_is_refused(folder):
-    path = os.path.join(folder, "other.db")
-    statement(path, "CREATE TABLE items (name TEXT); INSERT INTO items VALUES ('kept')")
-    refused = run(path, put(b"a", b"x"))
-    return refused == (10, b"") and statement(path, "SELECT name FROM items") == "kept"
+    """A table of another form, of either name, is refused and keeps its rows."""
+    for name in ["items", "items2"]:
+        path = os.path.join(folder, "other-%s.db" % name)
+        statement(path, "CREATE TABLE %s (name TEXT); INSERT INTO %s VALUES ('kept')" % (name, name))
+        if run(path, put(b"a", b"x")) != (10, b"") or statement(path, "SELECT name FROM %s" % name) != "kept":
+            return False
+    return True
 
 
-def old_file(path, count):
-    """A file as earlier versions wrote it, with so many items of 525,600 minutes that were touched at 0."""
-    connection = sqlite3.connect(path)
-    connection.execute(OLD_TABLE)
-    connection.execute(OLD_INDEX)
-    rows = ((b"/k%d" % k, b"v%d" % k, 525_600, 0, 0, 0, 0, 31_536_000_000) for k in range(count))
-    connection.executemany("INSERT INTO items VALUES (?1, ?2, ?3, ?4, ?5, ?6, ?7, ?8)", rows)
-    connection.commit()
-    connection.close()
+ITEMS = (
+    "CREATE TABLE items (key BLOB PRIMARY KEY, body BLOB NOT NULL, minutes INTEGER NOT NULL, fresh INTEGER NOT NULL, "
+    "cookie INTEGER NOT NULL, since INTEGER NOT NULL, touched INTEGER NOT NULL, expiry INTEGER NOT NULL); "
+)
 
 
-def long_found(body):
-    return found(body).replace(b"Timeout: 20", b"Timeout: 525600")
-
-
-def old_file_is_carried_on(folder):
-    """The rows of a file of earlier versions are moved, and have no end after a day."""
-    path = os.path.join(folder, "old.db")
-    old_file(path, 3)
-    ran = subprocess.run(
-        [PROGRAM, "pipe", "86400000", "1000", "1", path], input=b"".join(get(b"k%d" % k) for k in range(3)), stdout=subprocess.PIPE
-    )
-    rows = statement(path, "SELECT count(*) FROM items"), statement(path, "SELECT count(*), min(ends) FROM items2")
-    good = ran.returncode == 0 and ran.stdout == b"".join(long_found(b"v%d" % k) for k in range(3))
-    return good and rows == ("0", "3|9223372036854775807")
+def rows_of_items_are_moved(folder):
+    """Items of the table without ends are read, and their rows are moved, each without an end."""
+    path = os.path.join(folder, "moved-rows.db")
+    rows = "(x'2f62', x'79', 20, 0, 0, 0, 0, 1200000), (x'2f61', x'78', 525600, 0, 7, 5, 0, 31536000000)"
+    statement(path, ITEMS + "INSERT INTO items VALUES " + rows)
+    read = run(path, get(b"b"))
+    left = statement(path, "SELECT count(*) FROM items")
+    ends = statement(path, "SELECT hex(key), cookie, ends FROM items2 ORDER BY key")
+    return read == (0, found(b"y")) and left == "0" and ends == "2F61|7|9223372036854775807\n2F62|0|9223372036854775807"
 
 
 def killed_move_loses_no_row(folder):
     """A run is killed amid the move of 3,000 rows, again and again: each row is in one of the tables, and a last run has them all."""
     path = os.path.join(folder, "moving.db")
-    old_file(path, 3_000)
+    connection = sqlite3.connect(path)
+    connection.executescript(ITEMS)
+    rows = ((b"/k%d" % k, b"v%d" % k) for k in range(3_000))
+    connection.executemany("INSERT INTO items VALUES (?1, ?2, 20, 0, 0, 0, 0, 1200000)", rows)
+    connection.commit()
+    connection.close()
     good, seen = True, []
     for pause in [0.05, 0.1, 0.2, 0.3, 0.5, 0.7]:
         child = subprocess.Popen([PROGRAM, *WORDS, path], stdin=subprocess.PIPE, stdout=subprocess.DEVNULL)
@@ -193,22 +185,18 @@ def killed_move_loses_no_row(folder):
         there = statement(path, "SELECT count(*) FROM (SELECT key FROM items UNION SELECT key FROM items2)")
         good = good and there == "3000"
         seen.append(statement(path, "SELECT count(*) FROM items2"))
-    status, text = run(path, b"".join(get(b"k%d" % k) for k in range(3_000)))
+    keys = range(1_000, 2_000)
+    status, text = run(path, b"".join(get(b"k%d" % k) for k in keys))
     print("  rows moved when the runs were killed: %s" % ", ".join(seen))
-    left = statement(path, "SELECT count(*) FROM items")
-    return good and status == 0 and left == "0" and text == b"".join(long_found(b"v%d" % k) for k in range(3_000))
+    counts = statement(path, "SELECT count(*) FROM items"), statement(path, "SELECT count(*) FROM items2")
+    return good and counts == ("0", "3000") and status == 0 and text == b"".join(found(b"v%d" % k) for k in keys)
 
 
-def old_row_that_is_no_item_is_refused(folder):
-    """A row of a file of earlier versions that is no item stays, with those behind it; without it the rest is moved."""
-    path = os.path.join(folder, "bad-row.db")
-    old_file(path, 3)
-    statement(path, "UPDATE items SET fresh = 2 WHERE key = x'2f6b31'")
-    refused = run(path, get(b"k0"))
-    rows = statement(path, "SELECT count(*) FROM items"), statement(path, "SELECT count(*) FROM items2")
-    statement(path, "DELETE FROM items WHERE key = x'2f6b31'")
-    mended = run(path, get(b"k0") + get(b"k2"))
-    return refused == (10, b"") and rows == ("2", "1") and mended == (0, long_found(b"v0") + long_found(b"v2"))
+def row_that_is_no_item_refuses_the_file(folder):
+    """A row of the table without ends that is no item stays there, and the file is refused."""
+    path = os.path.join(folder, "no-item.db")
+    statement(path, ITEMS + "INSERT INTO items VALUES (x'2f61', x'78', 0, 0, 0, 0, 0, 0)")
+    return run(path, get(b"a")) == (10, b"") and statement(path, "SELECT minutes FROM items") == "0"
 
 
 def file_that_may_not_be_written_is_refused(folder):
@@ -256,9 +244,9 @@ CASES = [
     folder_is_refused,
     garbage_is_refused,
     other_table_is_refused,
-    old_file_is_carried_on,
+    rows_of_items_are_moved,
     killed_move_loses_no_row,
-    old_row_that_is_no_item_is_refused,
+    row_that_is_no_item_refuses_the_file,
     file_that_may_not_be_written_is_refused,
     full_disk_loses_no_reply,
 ]

@@ -30,8 +30,8 @@ INDEX = "CREATE INDEX IF NOT EXISTS items2_by_expiry ON items2 (expiry, key)"
 GET = "SELECT body, minutes, fresh, cookie, since, touched, ends, expiry FROM items2 WHERE key = ?1"
 PUT = (
     "INSERT INTO items2 (key, body, minutes, fresh, cookie, since, touched, ends, expiry) VALUES (?1, ?2, ?3, ?4, ?5, ?6, ?7, ?8, ?9) "
-    "ON CONFLICT (key) DO UPDATE SET body = excluded.body, minutes = excluded.minutes, fresh = excluded.fresh, cookie = excluded.cookie, "
-    "since = excluded.since, touched = excluded.touched, ends = excluded.ends, expiry = excluded.expiry"
+    "ON CONFLICT (key) DO UPDATE SET body = excluded.body, minutes = excluded.minutes, fresh = excluded.fresh, "
+    "cookie = excluded.cookie, since = excluded.since, touched = excluded.touched, ends = excluded.ends, expiry = excluded.expiry"
 )
 DUE = "SELECT key FROM items2 WHERE expiry <= ?1 ORDER BY expiry, key LIMIT 1"
 
