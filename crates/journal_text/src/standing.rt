@@ -151,7 +151,16 @@ impl Standing {
             }));
         }
         let rose = has_risen(self.faults, faults);
-        match act(alloc, self.profile, &mut self.items, deed, moment, drawn, rose, reply)? {
+        match act(
+            alloc,
+            self.profile,
+            &mut self.items,
+            deed,
+            moment,
+            drawn,
+            rose,
+            reply,
+        )? {
             Some(why) => Ok(Some(why)),
             None => {
                 self.faults = faults;

@@ -184,7 +184,10 @@ const NOT_DATED: &[&str] = &[
 fn a_moment_of_a_lock_is_told_in_profile_3_alone(rt: HostRuntime) {
     for entries in DATED {
         for head in ["asp-journal 1 0\n", "asp-journal 2 0\n"] {
-            assert!(rt; stops_behind(rt.alloc(), head, entries, 16), "{head}{entries}");
+            assert!(rt;
+                stops_behind(rt.alloc(), head, entries, 16),
+                "{head}{entries}"
+            );
         }
     }
     for entries in NOT_DATED {

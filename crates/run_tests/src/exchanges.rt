@@ -208,7 +208,9 @@ fn requests_are_answered_in_order(rt: HostRuntime) -> Result<(), Fail> {
 }
 
 #[test]
-fn a_lock_in_the_way_is_told_with_the_moment_of_its_acquisition(rt: HostRuntime) -> Result<(), Fail> {
+fn a_lock_in_the_way_is_told_with_the_moment_of_its_acquisition(
+    rt: HostRuntime,
+) -> Result<(), Fail> {
     let alloc = rt.alloc();
     let mut text = Vec::from_slice(alloc, HELD)?;
     text.extend_from_slice(b"GET /a HTTP/1.1\r\nExclusive: acquire\r\n\r\n")?;

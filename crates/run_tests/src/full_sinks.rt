@@ -8,7 +8,13 @@ use std::test::Fail;
 
 /// The words of a command, the input, for how many bytes the sink has room, which writes fail, and
 /// what was taken then.
-type Row = (&'static str, &'static [u8], u64, &'static [u64], &'static str);
+type Row = (
+    &'static str,
+    &'static [u8],
+    u64,
+    &'static [u64],
+    &'static str,
+);
 
 const ROWS: [Row; 11] = [
     ("load 10 1", b"", 1_024, &[0], ""),

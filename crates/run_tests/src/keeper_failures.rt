@@ -30,16 +30,13 @@ const GRANTED_2: &str =
 
 /// A lock in the way: by its cookie, and its age in seconds. The one of cookie 1 was acquired at
 /// 1000, that of cookie 2 at 2000.
-const LOCKED_1_1: &str =
-    "HTTP/1.1 423 Locked\r\nLockCookie: 1\r\nLockAge: 1\r\nLockDate: 1000\r\n\
+const LOCKED_1_1: &str = "HTTP/1.1 423 Locked\r\nLockCookie: 1\r\nLockAge: 1\r\nLockDate: 1000\r\n\
     Content-Length: 0\r\n\r\n";
 
-const LOCKED_1_2: &str =
-    "HTTP/1.1 423 Locked\r\nLockCookie: 1\r\nLockAge: 2\r\nLockDate: 1000\r\n\
+const LOCKED_1_2: &str = "HTTP/1.1 423 Locked\r\nLockCookie: 1\r\nLockAge: 2\r\nLockDate: 1000\r\n\
     Content-Length: 0\r\n\r\n";
 
-const LOCKED_2_1: &str =
-    "HTTP/1.1 423 Locked\r\nLockCookie: 2\r\nLockAge: 1\r\nLockDate: 2000\r\n\
+const LOCKED_2_1: &str = "HTTP/1.1 423 Locked\r\nLockCookie: 2\r\nLockAge: 1\r\nLockDate: 2000\r\n\
     Content-Length: 0\r\n\r\n";
 
 /// The replies where the k-th call of the keeper fails: a write and a first acquire make two calls,

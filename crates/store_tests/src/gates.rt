@@ -21,7 +21,8 @@ impl Noting {
     fn note(&self, shard: u64, call: u64) {
         let noted = self.noted.load(Ordering::SeqCst);
         let digit = shard.min(1) * 2 + call.min(2);
-        self.noted.store(noted.wrapping_shl(3) | digit, Ordering::SeqCst);
+        self.noted
+            .store(noted.wrapping_shl(3) | digit, Ordering::SeqCst);
     }
 
     /// What was noted since this was last asked.

@@ -62,10 +62,12 @@ fn content_len(message: &Message) -> u64
     ensures { result ≡ length (content message.now) }
 {
     match message {
-        Message::Fit(Request {
-            ask: Ask::Write { body, .. },
-            ..
-        }) => body.as_slice().len() as u64,
+        Message::Fit(
+            Request {
+                ask: Ask::Write { body, .. },
+                ..
+            },
+        ) => body.as_slice().len() as u64,
         _ => 0,
     }
 }
