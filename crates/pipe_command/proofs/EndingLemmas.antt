@@ -22,6 +22,7 @@ use Rattle.percent_encoding.proofs.PercentLemmas.{IsByte}
 use Rattle.session_machine.specs.declared.entry.Entry.{Entry}
 use Rattle.session_machine.specs.declared.item.Item.{Item}
 use Rattle.session_machine.specs.History.{nothing}
+use Rattle.session_machine.specs.Profiles.{newest}
 use Rattle.shard_core.specs.Standing.{StandsFor}
 use Rattle.stream_core.specs.Connection.{Connection}
 use Rattle.stream_run.specs.declared.consumer.Consumer.{Ghosts}
@@ -107,7 +108,7 @@ no_faults_of : (CanCount : ℕ → Type 0) (told : Option (List ℕ → Option I
     → AllByRecursion (λ e. CanCount e.faults) list → NeverFails CanCount told list
 no_faults_of CanCount None faults list stands counts = tt
 no_faults_of CanCount (Some items) faults list stands counts =
-    λ never. faults-counted nothing list stands.told_is.0 (no-counts CanCount list counts never)
+    λ never. faults-counted newest nothing list stands.told_is.0 (no-counts CanCount list counts never)
 
 -- a rest that is hopeless is not empty: a read of `/` could follow it
 hopeless_after : (r : Request) → RequestFits r → All IsByte r.key → (rest : List ℕ)

@@ -3,7 +3,6 @@ use Rattle.std.proofs.Common.{◌≡◌, ℕ, ◌+◌, ◌<◌, Bool, true, fals
 use Rattle.std.specs.Prelude.{◌⊎◌, ◌≢◌, IsTrue, IsFalse, codes, ⊤}
 use Rattle.std.proofs.lemmas.Fmt.{decimal_digit}
 use Rattle.asp_messages.specs.declared.request.Message.{Message}
-use Rattle.asp_messages.specs.declared.request.Message.TheVariants.{Fit, Unfit}
 use Rattle.asp_messages.specs.RequestSpelling.{SpellsRequest}
 use Rattle.asp_messages.specs.Stream.{HasNoMessage, IsHopeless}
 use Rattle.asp_messages.proofs.RequestLemmas.{spelling_some}
@@ -15,7 +14,6 @@ use Rattle.stream_core.specs.Connection.{Connection}
 use Rattle.pipe_command.specs.declared.pipe.Output.{Output}
 use Rattle.pipe_command.specs.declared.pipe.Output.TheVariants as outputs
 use Rattle.pipe_command.specs.declared.pipe.Pipe.{Pipe}
-use Rattle.pipe_command.specs.declared.responder.Answer.{Answer}
 use Rattle.pipe_command.specs.declared.responder.Responder.{Responder}
 use Rattle.pipe_command.specs.Answering.{IsAnswered, due_for}
 use Rattle.pipe_command.specs.PlainRun.{output_of}

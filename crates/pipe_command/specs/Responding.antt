@@ -93,10 +93,10 @@ module _ {K : Type 0} (G : Ghosts K) where
   -- The same, and what is due is in two parts: for the messages before the last, and for the last.
   pub record HasAnsweredLast (first now : Responder K) (bytes rest whole last : List ℕ) : Type 0
     where
-    pub pipe : now.pipe ≡ first.pipe
-    pub floor : G.floor now.desk.keeper ≡ G.floor first.desk.keeper
-    pub progress : ProgressLast G.can_count first.pipe bytes whole last
-        (record (state_of now) { held = rest })
+      pub pipe : now.pipe ≡ first.pipe
+      pub floor : G.floor now.desk.keeper ≡ G.floor first.desk.keeper
+      pub progress : ProgressLast G.can_count first.pipe bytes whole last
+          (record (state_of now) { held = rest })
 
   -- ---- the consumer
 
