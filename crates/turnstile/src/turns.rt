@@ -59,12 +59,7 @@ impl<S: Stands + Drop> Turnstile<S> {
 
     /// A turnstile whose state stands for no entries yet, and its roll. After `NoMemory` the state
     /// is dropped.
-    pub fn new<R>(
-        _rt: &R,
-        alloc: Global,
-        state: S,
-        terms: Terms,
-    ) -> Result<FreshTurns<S>, NoMemory>
+    pub fn new<R>(_rt: &R, alloc: Global, state: S, terms: Terms) -> Result<FreshTurns<S>, NoMemory>
         requires place { terms.first_place ≤ end_of_places }
         requires state { S.stands state terms [] }
         ensures terms { IfOk result (λ f. terms_of f.turns ≡ terms) }
