@@ -5,6 +5,7 @@ ghost use Rattle.asp_base.specs.Places.{HasNone, IsFirstPlace};
 use crate::{Bytes, NoMemory, Steps};
 use memchr::memchr;
 use std::alloc::Global;
+use std::fmt;
 use std::marker::Model;
 use std::mem::replace;
 use std::sync::ledger::Ledger;
@@ -17,7 +18,7 @@ const MOST_SKIPPED: usize = 1_024;
 
 /// Bytes that are added at the end and taken off the front. Contracts see those that are held. They
 /// can be read only by calls that count each byte that they read.
-#[derive(Debug, Drop)]
+#[derive(Drop)]
 pub struct Held {
     alloc: Global,
     bytes: Vec<u8>,
@@ -32,6 +33,13 @@ impl Model for Held {
     ghost view = { λ h. drop h.start h.bytes.items };
 
     ghost invariant = { λ h. h.start ≤ length h.bytes.items };
+}
+
+// It shows no bytes: whoever reads them counts them.
+impl fmt::Debug for Held {
+    fn fmt<W: fmt::Write>(&self, f: &mut fmt::Formatter<W>) -> fmt::Result {
+        f.write_str("Held")
+    }
 }
 
 /// Drops the bytes before `start`, where there are more than may stay with a body. It takes no

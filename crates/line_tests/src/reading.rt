@@ -24,7 +24,10 @@ fn tell(reader: &mut JournalReader, lines: &mut Vec<u8>, most: usize) -> Result<
     'lines: for _ in 0..most {
         match reader.next() {
             JournalNext::Head { profile, place } => write_head(lines, profile, place)?,
-            JournalNext::Entry(entry) => write_entry(lines, &entry)?,
+            JournalNext::Entry(entry) => match reader.profile() {
+                Some(profile) => write_entry(lines, profile, &entry)?,
+                None => return Ok(false),
+            },
             JournalNext::More | JournalNext::NotAJournal { .. } => return Ok(true),
             JournalNext::NoMemory => return Err(NoMemory),
         }
