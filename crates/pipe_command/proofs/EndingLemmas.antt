@@ -108,7 +108,8 @@ no_faults_of : (CanCount : ℕ → Type 0) (told : Option (List ℕ → Option I
     → AllByRecursion (λ e. CanCount e.faults) list → NeverFails CanCount told list
 no_faults_of CanCount None faults list stands counts = tt
 no_faults_of CanCount (Some items) faults list stands counts =
-    λ never. faults-counted newest nothing list stands.told_is.0 (no-counts CanCount list counts never)
+    λ never. faults-counted newest nothing list stands.told_is.0
+    (no-counts CanCount list counts never)
 
 -- a rest that is hopeless is not empty: a read of `/` could follow it
 hopeless_after : (r : Request) → RequestFits r → All IsByte r.key → (rest : List ℕ)
@@ -179,7 +180,8 @@ module _ {K : Type 0} (G : keepers.Ghosts K) where
   module _ (first now : Responder K) (f : Flow) where
     -- what the run gives
     abbrev Gives : End → Type 0
-    Gives end = IsRun G.can_count first.pipe f (G.told now.desk.keeper) (G.count now.desk.keeper) end
+    Gives end =
+        IsRun G.can_count first.pipe f (G.told now.desk.keeper) (G.count now.desk.keeper) end
 
     -- how far it came, with this rest
     abbrev ProgressAt : List ℕ → List ℕ → List ℕ → Type 0
@@ -219,7 +221,8 @@ module _ {K : Type 0} (G : keepers.Ghosts K) where
 
     -- all that is due was written
     all_wrote : (bytes rest due : List ℕ) (run : ProgressAt bytes rest due)
-        → Takes f.sink f.sink' due → Wrote (reached bytes rest due run) (due_in (reached bytes rest due run))
+        → Takes f.sink f.sink' due
+        → Wrote (reached bytes rest due run) (due_in (reached bytes rest due run))
     all_wrote bytes rest due run wrote = subst (Takes f.sink f.sink') run.due_is wrote
 
     -- so many bytes of what is due for the last message were
