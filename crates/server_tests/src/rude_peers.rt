@@ -61,21 +61,27 @@ fn say(peer: &TcpStream, sent: &[u8]) -> Option<()> {
 /// How long the longest content is, in bytes.
 const LONGEST: usize = 4_194_304;
 
-/// A peer writes the longest content, asks for it eight times, and reads nothing: more than the
-/// system keeps for it. Another peer asks behind it, and hears its answer.
+/// A write of the longest content, and eight reads of it: more than the system keeps for a peer that
+/// reads nothing.
+fn many_asks(alloc: Global) -> Result<Vec<u8>, Fail> {
+    let head = "PUT /large HTTP/1.1\r\nContent-Length: 4194304\r\n\r\n";
+    let mut sent = joined(alloc, &[head])?;
+    sent.resize(sent.len().min(100) + LONGEST, b'y')?;
+    for _ in 0..8 {
+        sent.extend_from_slice(b"GET /large HTTP/1.1\r\n\r\n")?;
+    }
+    Ok(sent)
+}
+
+/// A peer sends the bytes, and reads nothing. Another peer asks behind it, and hears its answer.
 fn ask_behind<R: Net<Stream = TcpStream>>(
     rt: &R,
     alloc: Global,
     address: SocketAddr,
+    sent: &[u8],
 ) -> Option<Vec<u8>> {
-    let head = "PUT /large HTTP/1.1\r\nContent-Length: 4194304\r\n\r\n";
-    let mut sent = joined(alloc, &[head]).ok()?;
-    sent.resize(sent.len().min(100) + LONGEST, b'y').ok()?;
-    for _ in 0..8 {
-        sent.extend_from_slice(b"GET /large HTTP/1.1\r\n\r\n").ok()?;
-    }
     let mut rude = TcpStream::connect(rt, address).ok()?;
-    rude.write_all(&sent).ok()?;
+    rude.write_all(sent).ok()?;
     let good = TcpStream::connect(rt, address).ok()?;
     say(&good, b"GET /a HTTP/1.1\r\n\r\n")?;
     let heard = hear(alloc, good);
@@ -87,11 +93,12 @@ fn ask_behind<R: Net<Stream = TcpStream>>(
 fn a_peer_that_never_reads_holds_its_worker_for_a_while(rt: HostRuntime) -> Result<(), Fail> {
     let alloc = rt.alloc();
     let (listener, address) = listen(&rt)?;
+    let sent = many_asks(alloc)?;
     let door = TcpDoor::with_write_timeout(&listener, 2, Duration::from_millis(200));
     let (served, heard) = join(
         &rt,
         || serve_door(&rt, alloc, door),
-        || ask_behind(&rt, alloc, address),
+        || ask_behind(&rt, alloc, address, &sent),
     );
     served.ok_or("no memory")?;
     assert!(rt; heard.ok_or("no answer")?.as_slice() == MISSING.as_bytes());
