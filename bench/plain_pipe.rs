@@ -6,8 +6,10 @@ use std::io::{Read, Write};
 
 const MAX: u64 = 9_223_372_036_854_775_807;
 const MOMENT: u64 = 1 << 62;
+/// How long an item lives at most, in milliseconds.
+const WHOLE_LIFE: u64 = 86_400_000;
 
-struct Item { body: Vec<u8>, minutes: u64, fresh: bool, holder: Option<(u64, u64)>, touched: u64 }
+struct Item { body: Vec<u8>, minutes: u64, fresh: bool, holder: Option<(u64, u64)>, touched: u64, ends: u64 }
 
 enum Ask { Read, Acquire, Release(u64), Write { minutes: u64, fresh: bool, cookie: u64 }, Remove(u64), Reset }
 
@@ -100,7 +102,7 @@ fn parse(held: &[u8]) -> Parsed {
     }
 }
 
-enum Reply<'a> { Found { body: &'a [u8], minutes: u64, cookie: u64, first: bool }, Done, Locked { cookie: u64, age: u64 }, Missing, Bad, CookiesOut }
+enum Reply<'a> { Found { body: &'a [u8], minutes: u64, cookie: u64, first: bool }, Done, Locked { cookie: u64, age: u64, since: Option<u64> }, Missing, Bad, CookiesOut }
 
 fn write_reply(out: &mut impl Write, r: &Reply) -> std::io::Result<()> {
     let mut head: Vec<u8> = Vec::with_capacity(256);
@@ -113,8 +115,10 @@ fn write_reply(out: &mut impl Write, r: &Reply) -> std::io::Result<()> {
             out.write_all(&head)?;
             return if body.is_empty() { Ok(()) } else { out.write_all(body) };
         }
-        Reply::Locked { cookie, age } => {
-            write!(head, "HTTP/1.1 423 Locked\r\nLockCookie: {cookie}\r\nLockAge: {age}\r\nContent-Length: 0\r\n\r\n")?;
+        Reply::Locked { cookie, age, since } => {
+            write!(head, "HTTP/1.1 423 Locked\r\nLockCookie: {cookie}\r\nLockAge: {age}\r\n")?;
+            if let Some(since) = since { write!(head, "LockDate: {since}\r\n")?; }
+            write!(head, "Content-Length: 0\r\n\r\n")?;
         }
         Reply::Done => head.extend(b"HTTP/1.1 200 OK\r\nContent-Length: 0\r\n\r\n"),
         Reply::Missing => head.extend(b"HTTP/1.1 404 Not Found\r\nContent-Length: 0\r\n\r\n"),
@@ -148,15 +152,15 @@ struct Desk<M: Items> { items: M }
 impl<M: Items> Desk<M> {
     fn act(&mut self, out: &mut impl Write, key: Vec<u8>, ask: Ask, body: &[u8], t: u64, drawn: u64) -> std::io::Result<()> {
         if matches!(ask, Ask::Acquire) && drawn == 0 { return write_reply(out, &Reply::CookiesOut); }
-        let live = self.items.find(&key).is_some_and(|i| t < i.touched + i.minutes * 60_000);
+        let live = self.items.find(&key).is_some_and(|i| t < (i.touched + i.minutes * 60_000).min(i.ends));
         let locked = |i: &Item| match i.holder {
-            Some((cookie, since)) => Reply::Locked { cookie, age: t.saturating_sub(since) / 1000 },
-            None => Reply::Locked { cookie: 0, age: 0 },
+            Some((cookie, since)) => Reply::Locked { cookie, age: t.saturating_sub(since) / 1000, since: Some(since) },
+            None => Reply::Locked { cookie: 0, age: 0, since: None },
         };
         if !live {
             return match ask {
                 Ask::Write { minutes, fresh, cookie: 0 } => {
-                    self.items.put(key, Item { body: body.to_vec(), minutes, fresh, holder: None, touched: t });
+                    self.items.put(key, Item { body: body.to_vec(), minutes, fresh, holder: None, touched: t, ends: t + WHOLE_LIFE });
                     write_reply(out, &Reply::Done)
                 }
                 _ => { self.items.cut(&key); write_reply(out, &Reply::Missing) }

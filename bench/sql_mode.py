@@ -13,6 +13,7 @@ import sqlite3
 import subprocess
 import sys
 import tempfile
+import time
 
 TOP = os.path.dirname(os.path.dirname(os.path.abspath(__file__)))
 PROGRAM = os.path.abspath(sys.argv[1]) if len(sys.argv) > 1 else os.path.join(TOP, "asp_state")
@@ -62,12 +63,12 @@ def sqlite3_reads_and_writes(folder):
     """Debian's sqlite3 reads a row that was written, and writes one that the next run reads."""
     path = os.path.join(folder, "shared.db")
     wrote = run(path, put(b"a", b"x"))
-    columns = "hex(key), hex(body), minutes, fresh, cookie, since, touched, expiry"
-    row = statement(path, "SELECT %s FROM items" % columns)
-    said = statement(path, "INSERT INTO items VALUES (x'2f62', x'79', 20, 0, 0, 0, 0, 1200000)")
+    columns = "hex(key), hex(body), minutes, fresh, cookie, since, touched, ends, expiry"
+    row = statement(path, "SELECT %s FROM items2" % columns)
+    said = statement(path, "INSERT INTO items2 VALUES (x'2f62', x'79', 20, 0, 0, 0, 0, 86400000, 1200000)")
     read = run(path, get(b"b"))
     checked = statement(path, "PRAGMA integrity_check")
-    return wrote == (0, DONE) and row == "2F61|78|20|0|0|0|0|1200000" and said == "" and read == (0, found(b"y")) and checked == "ok"
+    return wrote == (0, DONE) and row == "2F61|78|20|0|0|0|0|86400000|1200000" and said == "" and read == (0, found(b"y")) and checked == "ok"
 
 
 def killed_run_keeps_its_replies(folder):
@@ -92,7 +93,7 @@ def killed_run_keeps_its_replies(folder):
     os.waitpid(feeder, 0)
     answered = len(replies) // len(DONE)
     status, text = run(path, b"".join(get(b"k%d" % k) for k in range(answered)))
-    kept = int(statement(path, "SELECT count(*) FROM items"))
+    kept = int(statement(path, "SELECT count(*) FROM items2"))
     print("  %d replies were read, %d rows are there" % (answered, kept))
     return status == 0 and 4000 <= answered <= kept < 10_000 and text == b"".join(found(b"v%d" % k) for k in range(answered))
 
@@ -105,7 +106,7 @@ def held_file_is_refused(folder):
     child.stdin.flush()
     first = child.stdout.read(len(DONE))
     second = run(path, get(b"a"))
-    said = statement(path, "SELECT count(*) FROM items")
+    said = statement(path, "SELECT count(*) FROM items2")
     child.stdin.write(get(b"a"))
     child.stdin.close()
     last = child.stdout.read()
@@ -140,10 +141,62 @@ def garbage_is_refused(folder):
 
 
 def other_table_is_refused(folder):
-    path = os.path.join(folder, "other.db")
-    statement(path, "CREATE TABLE items (name TEXT); INSERT INTO items VALUES ('kept')")
-    refused = run(path, put(b"a", b"x"))
-    return refused == (10, b"") and statement(path, "SELECT name FROM items") == "kept"
+    """A table of another form, of either name, is refused and keeps its rows."""
+    for name in ["items", "items2"]:
+        path = os.path.join(folder, "other-%s.db" % name)
+        statement(path, "CREATE TABLE %s (name TEXT); INSERT INTO %s VALUES ('kept')" % (name, name))
+        if run(path, put(b"a", b"x")) != (10, b"") or statement(path, "SELECT name FROM %s" % name) != "kept":
+            return False
+    return True
+
+
+ITEMS = (
+    "CREATE TABLE items (key BLOB PRIMARY KEY, body BLOB NOT NULL, minutes INTEGER NOT NULL, fresh INTEGER NOT NULL, "
+    "cookie INTEGER NOT NULL, since INTEGER NOT NULL, touched INTEGER NOT NULL, expiry INTEGER NOT NULL); "
+)
+
+
+def rows_of_items_are_moved(folder):
+    """Items of the table without ends are read, and their rows are moved, each without an end."""
+    path = os.path.join(folder, "moved-rows.db")
+    rows = "(x'2f62', x'79', 20, 0, 0, 0, 0, 1200000), (x'2f61', x'78', 525600, 0, 7, 5, 0, 31536000000)"
+    statement(path, ITEMS + "INSERT INTO items VALUES " + rows)
+    read = run(path, get(b"b"))
+    left = statement(path, "SELECT count(*) FROM items")
+    ends = statement(path, "SELECT hex(key), cookie, ends FROM items2 ORDER BY key")
+    return read == (0, found(b"y")) and left == "0" and ends == "2F61|7|9223372036854775807\n2F62|0|9223372036854775807"
+
+
+def killed_move_loses_no_row(folder):
+    """A run is killed amid the move of 3,000 rows, again and again: each row is in one of the tables, and a last run has them all."""
+    path = os.path.join(folder, "moving.db")
+    connection = sqlite3.connect(path)
+    connection.executescript(ITEMS)
+    rows = ((b"/k%d" % k, b"v%d" % k) for k in range(3_000))
+    connection.executemany("INSERT INTO items VALUES (?1, ?2, 20, 0, 0, 0, 0, 1200000)", rows)
+    connection.commit()
+    connection.close()
+    good, seen = True, []
+    for pause in [0.05, 0.1, 0.2, 0.3, 0.5, 0.7]:
+        child = subprocess.Popen([PROGRAM, *WORDS, path], stdin=subprocess.PIPE, stdout=subprocess.DEVNULL)
+        time.sleep(pause)
+        child.send_signal(signal.SIGKILL)
+        child.wait()
+        there = statement(path, "SELECT count(*) FROM (SELECT key FROM items UNION SELECT key FROM items2)")
+        good = good and there == "3000"
+        seen.append(statement(path, "SELECT count(*) FROM items2"))
+    keys = range(1_000, 2_000)
+    status, text = run(path, b"".join(get(b"k%d" % k) for k in keys))
+    print("  rows moved when the runs were killed: %s" % ", ".join(seen))
+    counts = statement(path, "SELECT count(*) FROM items"), statement(path, "SELECT count(*) FROM items2")
+    return good and counts == ("0", "3000") and status == 0 and text == b"".join(found(b"v%d" % k) for k in keys)
+
+
+def row_that_is_no_item_refuses_the_file(folder):
+    """A row of the table without ends that is no item stays there, and the file is refused."""
+    path = os.path.join(folder, "no-item.db")
+    statement(path, ITEMS + "INSERT INTO items VALUES (x'2f61', x'78', 0, 0, 0, 0, 0, 0)")
+    return run(path, get(b"a")) == (10, b"") and statement(path, "SELECT minutes FROM items") == "0"
 
 
 def file_that_may_not_be_written_is_refused(folder):
@@ -191,6 +244,9 @@ CASES = [
     folder_is_refused,
     garbage_is_refused,
     other_table_is_refused,
+    rows_of_items_are_moved,
+    killed_move_loses_no_row,
+    row_that_is_no_item_refuses_the_file,
     file_that_may_not_be_written_is_refused,
     full_disk_loses_no_reply,
 ]

@@ -23,17 +23,17 @@ PROGRAM = PROGRAMS[0] if PROGRAMS else os.path.join(TOP, "asp_state")
 MESSAGES, MISSES, ROUNDS = 2_000, 20_000, 3
 BODY = b"x" * 100
 TABLE = (
-    "CREATE TABLE IF NOT EXISTS items (key BLOB PRIMARY KEY, body BLOB NOT NULL, minutes INTEGER NOT NULL, fresh INTEGER NOT NULL, "
-    "cookie INTEGER NOT NULL, since INTEGER NOT NULL, touched INTEGER NOT NULL, expiry INTEGER NOT NULL)"
+    "CREATE TABLE IF NOT EXISTS items2 (key BLOB PRIMARY KEY, body BLOB NOT NULL, minutes INTEGER NOT NULL, fresh INTEGER NOT NULL, "
+    "cookie INTEGER NOT NULL, since INTEGER NOT NULL, touched INTEGER NOT NULL, ends INTEGER NOT NULL, expiry INTEGER NOT NULL)"
 )
-INDEX = "CREATE INDEX IF NOT EXISTS items_by_expiry ON items (expiry, key)"
-GET = "SELECT body, minutes, fresh, cookie, since, touched, expiry FROM items WHERE key = ?1"
+INDEX = "CREATE INDEX IF NOT EXISTS items2_by_expiry ON items2 (expiry, key)"
+GET = "SELECT body, minutes, fresh, cookie, since, touched, ends, expiry FROM items2 WHERE key = ?1"
 PUT = (
-    "INSERT INTO items (key, body, minutes, fresh, cookie, since, touched, expiry) VALUES (?1, ?2, ?3, ?4, ?5, ?6, ?7, ?8) "
+    "INSERT INTO items2 (key, body, minutes, fresh, cookie, since, touched, ends, expiry) VALUES (?1, ?2, ?3, ?4, ?5, ?6, ?7, ?8, ?9) "
     "ON CONFLICT (key) DO UPDATE SET body = excluded.body, minutes = excluded.minutes, fresh = excluded.fresh, "
-    "cookie = excluded.cookie, since = excluded.since, touched = excluded.touched, expiry = excluded.expiry"
+    "cookie = excluded.cookie, since = excluded.since, touched = excluded.touched, ends = excluded.ends, expiry = excluded.expiry"
 )
-DUE = "SELECT key FROM items WHERE expiry <= ?1 ORDER BY expiry, key LIMIT 1"
+DUE = "SELECT key FROM items2 WHERE expiry <= ?1 ORDER BY expiry, key LIMIT 1"
 
 
 def key_of(k, rows):
@@ -41,7 +41,7 @@ def key_of(k, rows):
 
 
 def columns(key, t):
-    return (key, BODY, 20, 0, 0, 0, t, t + 1_200_000)
+    return (key, BODY, 20, 0, 0, 0, t, t + 86_400_000, t + 1_200_000)
 
 
 def filled(folder, name, rows, journal):

@@ -34,6 +34,21 @@ expect() {
     done
 }
 
+# Milliseconds since 1970.
+now() {
+    date +%s%3N
+}
+
+# The answer tells that the lock was acquired between these two moments.
+expect_date() {
+    local date
+    date=$(sed -n 's/^LockDate: //p' <<<"$answer")
+    if [ -z "$date" ] || [ "$date" -lt "$1" ] || [ "$date" -gt "$2" ]; then
+        echo "session-over-http: expected a LockDate from $1 to $2" >&2
+        exit 1
+    fi
+}
+
 start_server 2 4
 
 echo "# The session is written, and read."
@@ -43,15 +58,19 @@ ask GET
 expect 'HTTP/1.1 200 OK' 'Timeout: 20' 'cart=1'
 
 echo "# A page acquires it, and gets the cookie of its lock."
+before=$(now)
 ask GET -H 'Exclusive: acquire'
+after=$(now)
 expect 'HTTP/1.1 200 OK' 'cart=1'
 cookie=$(sed -n 's/^LockCookie: //p' <<<"$answer")
 
-echo "# Another page is answered 423 with that cookie and the lock's age, and so is a write without the cookie."
+echo "# Another page is answered 423 with that cookie, the lock's age and its date, and so is a write without the cookie."
 ask GET -H 'Exclusive: acquire'
 expect 'HTTP/1.1 423 Locked' "LockCookie: $cookie"
+expect_date "$before" "$after"
 ask PUT --data-binary 'cart=9'
 expect 'HTTP/1.1 423 Locked' "LockCookie: $cookie"
+expect_date "$before" "$after"
 
 echo "# The first page's write names the cookie, and ends the lock."
 ask PUT -H "LockCookie: $cookie" --data-binary 'cart=2'

@@ -1,7 +1,6 @@
 -- A stream of messages, each a head and the body that it announces. Requests and replies differ in
 -- the grammar of their heads (`IsHead`), in where a head has its fields (`fields`), and in what
--- bytes say
--- (`Spells`).
+-- bytes say (`Spells`).
 use Rattle.std.specs.Prelude.{◌⊎◌, ◌<◌, ◌≡◌, ℕ, List, [], ◌∷◌, ◌++◌, length, Some}
 use Rattle.asp_messages.specs.Fields.{Field, body_length}
 use Rattle.asp_messages.specs.Head.{most_head}

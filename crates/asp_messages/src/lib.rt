@@ -16,7 +16,8 @@ pub use append::{or_undo, push, push_hex, push_number, then_number};
 pub use laws::{one_stream, waiting_is_short};
 pub use plain::{spell_ask, spell_dated, spell_reply};
 pub use ranges::{
-    MOST_AGE, MOST_BODY, MOST_COOKIE, MOST_KEY, MOST_MINUTES, MOST_SINCE, named, reply_fits, request_fits,
+    MOST_AGE, MOST_BODY, MOST_COOKIE, MOST_KEY, MOST_MINUTES, MOST_SINCE, named, reply_fits,
+    request_fits,
 };
 pub use reply::{Reply, status_of};
 pub use reply_text::{ReplyHead, reply_body, reply_head};

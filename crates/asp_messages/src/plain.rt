@@ -105,7 +105,8 @@ fn push_reply(out: &mut Vec<u8>, reply: &Reply) -> Result<(), NoMemory>
     }
 }
 
-/// Appends the plain spelling of the reply, without the moment of an acquisition. After `NoMemory` the buffer holds what it held.
+/// Appends the plain spelling of the reply, without the moment of an acquisition. After `NoMemory`
+/// the buffer holds what it held.
 pub fn spell_reply(out: &mut Vec<u8>, reply: &Reply) -> Result<(), NoMemory>
     ensures ok { OnOk result (out.new.items ≡ out.old.items ++ reply_spelling reply.now) }
     ensures err { OnErr result (out.new.items ≡ out.old.items) }

@@ -221,7 +221,8 @@ module _ (lines : List ℕ) (offset len : ℕ) (may_feed : Bool) (below : len < 
 
 -- ---- a reader that breaks
 
-pub breaks : (held : List ℕ) (offset : ℕ) (begun : Option Profile) (may_feed : Bool) → IsNoLine begun held
+pub breaks : (held : List ℕ) (offset : ℕ) (begun : Option Profile) (may_feed : Bool)
+    → IsNoLine begun held
     → (text : List ℕ) (taken : Taken)
     → HasRead text taken (whole_reader held offset begun may_feed)
     → HasRead text taken (broken (whole_reader held offset begun may_feed))
@@ -234,7 +235,8 @@ breaks held offset begun may_feed wrong text taken has = record {
   holds = subst (IsNoLine begun) (sym has.holds) wrong;
 }
 
-pub stops_there : (held : List ℕ) (offset : ℕ) (begun : Option Profile) (may_feed : Bool) → IsNoLine begun held
+pub stops_there : (held : List ℕ) (offset : ℕ) (begun : Option Profile) (may_feed : Bool)
+    → IsNoLine begun held
     → (text : List ℕ) (taken : Taken)
     → HasRead text taken (whole_reader held offset begun may_feed) → StopsAt text offset
 stops_there held offset begun may_feed wrong text taken has = record {
@@ -260,7 +262,8 @@ reader_with held offset begun is_broken may_feed =
           may_feed;
     }
 
-module _ (lines : List ℕ) (offset : ℕ) (begun : Option Profile) (is_broken may_feed : Bool) (self : Reading)
+module _ (lines : List ℕ) (offset : ℕ) (begun : Option Profile) (is_broken may_feed : Bool) (self :
+    Reading)
     (self_is : reader_with lines offset begun is_broken may_feed ≡ self)
     (whole : is_broken ≡ false)
   where

@@ -32,19 +32,22 @@ taken-behind c list e place why is has = record {
   knows = subst (λ v. KnowsWhileLegal v c.known (list ++ e ∷ [])) (sym is) tt;
 }
 
-legal-parts : (profile : Profile) (first : ℕ) (list : List Entry) (known : Known) (verdict : Judgement)
+legal-parts : (profile : Profile) (first : ℕ) (list : List Entry) (known : Known) (verdict :
+    Judgement)
     → ((place : ℕ) (why : Why) → verdict ≡ Illegal place why → ⊥)
     → Judges profile first list verdict → KnowsWhileLegal verdict known list
     → IsLegalIn profile nothing 0 list × Knows known list
 legal-parts profile first list known (Legal entries) apart judges knows = (judges.0, knows)
-legal-parts profile first list known (Illegal place why) apart judges knows = absurd (apart place why refl)
+legal-parts profile first list known (Illegal place why) apart judges knows =
+    absurd (apart place why refl)
 
 -- what the next entry's judgement says
 abbrev pub JudgesNext : ℕ → ℕ → Known → Known → Entry → Judgement → Type 0
 JudgesNext place taken old new e judgement = (first : ℕ) (before : List Entry)
     → place ≡ first + length before → taken ≡ length before → IsLegalIn old.profile nothing 0 before
     → Knows old before
-    → Judges old.profile first (before ++ e ∷ []) judgement × KnowsWhileLegal judgement new (before ++ e ∷ [])
+    → Judges old.profile first (before ++ e ∷ []) judgement × KnowsWhileLegal judgement new (before
+    ++ e ∷ [])
 
 -- a legal one has the judgement of its next entry
 pub taken-next : (c : Checked) (list : List Entry) (e : Entry) (known : Known)
@@ -54,7 +57,8 @@ pub taken-next : (c : Checked) (list : List Entry) (e : Entry) (known : Known)
     → HasTaken (record { first = c.first; taken = c.taken + 1; verdict = judgement; known = known })
     (list ++ e ∷ [])
 taken-next c list e known judgement apart next same has =
-    let parts = legal-parts c.known.profile c.first list c.known c.verdict apart has.judges has.knows in
+    let parts = legal-parts c.known.profile c.first list c.known c.verdict apart has.judges
+    has.knows in
     let judged = next c.first list (ap (λ n. c.first + n) has.taken) has.taken parts.0 parts.1 in
     record {
       taken = one_more list e c.taken has.taken;

@@ -11,8 +11,8 @@ use Rattle.journal_text.specs.declared.judgement.Judgement.{Judgement}
 use Rattle.journal_text.specs.declared.judgement.Judgement.TheVariants.{Legal, Illegal}
 use Rattle.journal_text.specs.Judging.{Judges, count_before, draw_before, item_before}
 
--- What is known behind a legal history: its profile, the count of faults, the greatest cookie drawn, and the
--- items that there are.
+-- What is known behind a legal history: its profile, the count of faults, the greatest cookie
+-- drawn, and the items that there are.
 pub record Known : Type 0 where
   pub profile : Profile
   pub count : ℕ

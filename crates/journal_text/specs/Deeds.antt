@@ -53,25 +53,30 @@ IsLeft after key old new (left.Nothing gone) = (after ≡ None) × (gone ≡ key
 
 -- what a request leaves of the item that is there, or why it may not have been answered so
 abbrev pub Leaves : Profile → Item → Item → Request → Circumstances → Reply → Left → Type 0
-Leaves profile old new request at reply (left.Wrong why) = IsWrongThere profile (Some old) request at reply why
+Leaves profile old new request at reply (left.Wrong why) =
+    IsWrongThere profile (Some old) request at reply why
 Leaves profile old new request at reply left =
     IsRightReply at.rose (own_reply profile (Some old) at.moment at.drawn request) reply
-    × IsLeft (after_reply profile (Some old) at.moment at.drawn request.ask reply) request.key old new left
+    × IsLeft (after_reply profile (Some old) at.moment at.drawn request.ask reply)
+    request.key old new left
 
 -- the deed may be done, and leaves the items so
-abbrev pub IsDone : Profile → List (List ℕ × Item) → List (List ℕ × Item) → Deed → Circumstances → Reply
-    → Type 0
+abbrev pub IsDone : Profile → List (List ℕ × Item) → List (List ℕ × Item) → Deed → Circumstances
+    → Reply → Type 0
 IsDone profile old new (Asked request) at reply =
-    IsRightReply at.rose (own_reply profile (item_among old request.key) at.moment at.drawn request) reply
-    × ReplacesItem old new request.key (after_reply profile (item_among old request.key) at.moment at.drawn
-    request.ask reply)
-IsDone profile old new (Expired key) at reply = IsDead (item_among old key) at.moment
-    × ReplacesItem old new key None
+    IsRightReply at.rose (own_reply profile (item_among old request.key) at.moment at.drawn request)
+    reply
+    × ReplacesItem old new request.key
+    (after_reply profile (item_among old request.key) at.moment at.drawn request.ask reply)
+IsDone profile old new (Expired key) at reply =
+    IsDead (item_among old key) at.moment × ReplacesItem old new key None
 IsDone profile old new Looked at reply = IsRightReply at.rose Done reply × (new ≡ old)
 
 -- the deed may not be done
 abbrev pub IsBarred : Profile → List (List ℕ × Item) → Deed → Circumstances → Reply → Why → Type 0
 IsBarred profile old (Asked request) at reply why =
     IsWrongThere profile (item_among old request.key) request at reply why
-IsBarred profile old (Expired key) at reply why = (why ≡ NotDue) × IsNotDead (item_among old key) at.moment
-IsBarred profile old Looked at reply why = (why ≡ WrongReply Done reply) × IsWrongReply at.rose Done reply
+IsBarred profile old (Expired key) at reply why =
+    (why ≡ NotDue) × IsNotDead (item_among old key) at.moment
+IsBarred profile old Looked at reply why =
+    (why ≡ WrongReply Done reply) × IsWrongReply at.rose Done reply

@@ -12,8 +12,8 @@ use session_machine::{Entry, Profile};
 use std::alloc::Global;
 use std::marker::Model;
 
-/// It takes the entries of a list in turn, and judges whether they are a legal history of its profile
-/// from no items and no fault. It keeps the items that there are, and no entry.
+/// It takes the entries of a list in turn, and judges whether they are a legal history of its
+/// profile from no items and no fault. It keeps the items that there are, and no entry.
 #[derive(Debug, Drop)]
 pub struct Checker {
     alloc: Global,

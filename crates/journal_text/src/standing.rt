@@ -151,7 +151,16 @@ impl Standing {
             }));
         }
         let rose = has_risen(self.faults, faults);
-        match act(alloc, self.profile, &mut self.items, deed, moment, drawn, rose, reply)? {
+        match act(
+            alloc,
+            self.profile,
+            &mut self.items,
+            deed,
+            moment,
+            drawn,
+            rose,
+            reply,
+        )? {
             Some(why) => Ok(Some(why)),
             None => {
                 self.faults = faults;
@@ -174,7 +183,8 @@ impl Standing {
         ensures judged { (first : ℕ) (before : List Entry) → place ≡ first + length before
             → taken ≡ length before → IsLegalIn self.old.profile nothing 0 before
             → Knows self.old before
-            → IfOk result (λ judgement. Judges self.old.profile first (before ++ entry ∷ []) judgement
+            → IfOk result (λ judgement. Judges self.old.profile first (before
+            ++ entry ∷ []) judgement
             × KnowsWhileLegal judgement self.new (before ++ entry ∷ [])) }
         ensures profile { self.new.profile ≡ self.old.profile }
         ensures err { OnErr result (self.new ≡ self.old) }

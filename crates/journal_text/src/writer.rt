@@ -149,8 +149,8 @@ fn reply_has_bytes(reply: &Reply)
     }
 }
 
-/// Appends the first line of a journal of the profile whose first entry has this place. After `NoMemory` the
-/// buffer holds what it held.
+/// Appends the first line of a journal of the profile whose first entry has this place. After
+/// `NoMemory` the buffer holds what it held.
 pub fn write_head(out: &mut Vec<u8>, profile: Profile, place: u64) -> Result<(), NoMemory>
     requires { PlaceFits place }
     ensures ok { OnOk result (out.new.items ≡ out.old.items ++ head_line profile place) }

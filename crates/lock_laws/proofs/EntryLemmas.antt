@@ -100,7 +100,8 @@ dead (Some item) t grant h g = by_life (is_live item t) refl h
     by_life false l n = let m : grant.minutes ≡ item.minutes =
         granted-minutes item.holder item grant g in grind (arith, nat_tests)
 
-absent-does : (profile : Profile) (old : Option Item) (e : Entry) (key : List ℕ) (ask : Ask) → seen old e.moment ≡ None
+absent-does : (profile : Profile) (old : Option Item) (e : Entry) (key : List ℕ) (ask : Ask)
+    → seen old e.moment ≡ None
     → Does old e key ask (on_absent profile e.moment ask)
 absent-does profile old e key Read h = record {
   keeps = λ grant g n. let d : runs_out grant (life_of old) ≤ e.moment =
@@ -192,7 +193,8 @@ absent-does profile old e key Reset h = record {
 -- what a request does under a lock, said of the lock's own grant
 pub record UnderLock (item : Item) (hold : Hold) (e : Entry) (key : List ℕ) (ask : Ask)
     (x : Effect) : Type 0 where
-  pub keeps : ends hold.cookie (min (item.touched + item.minutes * 60000) item.ends) (asked e key ask x.0) ≡ false
+  pub keeps : ends hold.cookie (min (item.touched + item.minutes * 60000) item.ends) (asked e key
+      ask x.0) ≡ false
       → (grant_of x.1 ≡ Some (record {
         cookie = hold.cookie;
         body = item.body;
@@ -202,14 +204,16 @@ pub record UnderLock (item : Item) (hold : Hold) (e : Entry) (key : List ℕ) (a
   pub comes : (grant : Grant) → grant_of x.1 ≡ Some grant
       → (Some (record { cookie = hold.cookie; body = item.body; minutes = item.minutes })
       ≡ Some grant)
-      × (ends hold.cookie (min (item.touched + item.minutes * 60000) item.ends) (asked e key ask x.0) ≡ false)
+      × (ends hold.cookie (min (item.touched + item.minutes * 60000) item.ends) (asked e key ask
+      x.0) ≡ false)
   pub refuses : granted x.0 ≡ None
   pub stale : (cookie : ℕ) → named_in ask ≡ Some cookie
       → (seen x.1 e.moment ≡ Some (record item { holder = Some hold })) ⊎ (hold.cookie ≡ cookie)
   pub answers : named_in ask ≡ Some hold.cookie → IsAnsweredUnderLock x.0
   pub others : is_change ask ≡ true
       → (seen x.1 e.moment ≡ Some (record item { holder = Some hold }))
-      ⊎ ((named_in ask ≡ Some hold.cookie) × (ends hold.cookie (min (item.touched + item.minutes * 60000) item.ends)
+      ⊎ ((named_in ask ≡ Some hold.cookie) × (ends hold.cookie (min (item.touched + item.minutes *
+      60000) item.ends)
       (asked e key ask x.0) ≡ true))
 
 held-does : (profile : Profile) (item : Item) (hold : Hold) (e : Entry) (key : List ℕ) (ask : Ask)
@@ -305,7 +309,8 @@ lift : (item : Item) (hold : Hold) (e : Entry) (key : List ℕ) (ask : Ask) (x :
     → is_live item e.moment ≡ true → UnderLock item hold e key ask x
     → Does (Some (record item { holder = Some hold })) e key ask x
 lift item hold e key ask x live under = record {
-  keeps = λ grant g. of (λ gr. ends gr.cookie (runs_out gr (life_of (Some item))) (asked e key ask x.0)
+  keeps = λ grant g. of (λ gr. ends gr.cookie (runs_out gr (life_of (Some item))) (asked e key ask
+      x.0)
       ≡ false → (grant_of x.1 ≡ Some gr) × (life_of x.1
       ≡ life_by (life_of (Some item)) (asked e key ask x.0))) grant g under.keeps;
   comes = λ grant g. let c = under.comes grant g in
@@ -451,12 +456,15 @@ does-seen profile (Some item) e key ask draw = by_life (is_live item e.moment) r
         → Does (Some (record item { holder = holder })) e key ask
         (on_there profile (record item { holder = holder }) holder e.moment e.drawn ask)
     there None live = free-does item e key ask live draw
-    there (Some hold) live = lift item hold e key ask _ live (held-does profile item hold e key ask live)
+    there (Some hold) live = lift item hold e key ask _ live (held-does profile item hold e key ask
+        live)
 
     by_life : (b : Bool) → is_live item e.moment ≡ b
-        → Does (Some item) e key ask (on_seen profile (cond b (Some item) None) e.moment e.drawn ask)
+        → Does (Some item) e key ask (on_seen profile (cond b (Some item) None) e.moment e.drawn
+        ask)
     by_life true live = there item.holder live
-    by_life false live = absent-does profile (Some item) e key ask (ap (λ b. cond b (Some item) None) live)
+    by_life false live = absent-does profile (Some item) e key ask (ap (λ b. cond b (Some item)
+        None) live)
 
 -- what the machine does by itself
 does : (profile : Profile) (old : Option Item) (e : Entry) (key : List ℕ) (ask : Ask)
@@ -470,21 +478,25 @@ does profile old e key Acquire = by_draw (e.drawn == 0) refl
         (λ cookie. refl) (inl refl)
     by_draw false d = does-seen profile old e key Acquire (λ _. grind (arith, nat_tests))
 does profile old e key Read = does-seen profile old e key Read (λ a. absurd (cc a))
-does profile old e key (Release cookie) = does-seen profile old e key (Release cookie) (λ a. absurd (cc a))
+does profile old e key (Release cookie) = does-seen profile old e key (Release cookie) (λ a. absurd
+    (cc a))
 does profile old e key (Write body minutes fresh cookie) =
     does-seen profile old e key (Write body minutes fresh cookie) (λ a. absurd (cc a))
-does profile old e key (Remove cookie) = does-seen profile old e key (Remove cookie) (λ a. absurd (cc a))
+does profile old e key (Remove cookie) = does-seen profile old e key (Remove cookie) (λ a. absurd
+    (cc a))
 does profile old e key Reset = does-seen profile old e key Reset (λ a. absurd (cc a))
 
 -- what it does so, by the reply that was given
-by_reply : (profile : Profile) (old : Option Item) (e : Entry) (key : List ℕ) (ask : Ask) (reply : Reply)
+by_reply : (profile : Profile) (old : Option Item) (e : Entry) (key : List ℕ) (ask : Ask) (reply :
+    Reply)
     → (reply, (effect profile old e.moment e.drawn ask).1) ≡ effect profile old e.moment e.drawn ask
     → OneEntry old (asked e key ask reply) (effect profile old e.moment e.drawn ask).1
 by_reply profile old e key ask reply h =
     subst (λ r. OneEntry old (asked e key ask r) (effect profile old e.moment e.drawn ask).1)
     (sym (ap (λ (x : Effect). x.0) h)) (does profile old e key ask)
 
-asked-does : (profile : Profile) (old : Option Item) (e : Entry) (key : List ℕ) (ask : Ask) (rose : Bool)
+asked-does : (profile : Profile) (old : Option Item) (e : Entry) (key : List ℕ) (ask : Ask) (rose :
+    Bool)
     (reply : Reply) → Step profile old ask (circumstances_of rose e) reply
     (after_reply profile old e.moment e.drawn ask reply)
     → OneEntry old (asked e key ask reply) (after_reply profile old e.moment e.drawn ask reply)
@@ -497,10 +509,13 @@ asked-does profile old e key ask rose (replies.Found body minutes cookie first) 
 asked-does profile old e key ask rose replies.Done h = by_reply profile old e key ask replies.Done h
 asked-does profile old e key ask rose (replies.Locked cookie a since) h =
     by_reply profile old e key ask (replies.Locked cookie a since) h
-asked-does profile old e key ask rose replies.Missing h = by_reply profile old e key ask replies.Missing h
+asked-does profile old e key ask rose replies.Missing h = by_reply profile old e key ask
+    replies.Missing h
 asked-does profile old e key ask rose replies.Bad h = by_reply profile old e key ask replies.Bad h
-asked-does profile old e key ask rose replies.CookiesOut h = by_reply profile old e key ask replies.CookiesOut h
-asked-does profile old e key ask rose replies.PlacesOut h = by_reply profile old e key ask replies.PlacesOut h
+asked-does profile old e key ask rose replies.CookiesOut h = by_reply profile old e key ask
+    replies.CookiesOut h
+asked-does profile old e key ask rose replies.PlacesOut h = by_reply profile old e key ask
+    replies.PlacesOut h
 
 -- an item that has expired, removed
 expired-does : (old : Option Item) (e : Entry) (key : List ℕ)
@@ -516,7 +531,8 @@ expired-does old e key = record {
 }
 
 -- What each deed of a key does.
-pub one_entry : (profile : Profile) (old : Option Item) (e : Entry) (key : List ℕ) (rose : Bool) (deed : Deed)
+pub one_entry : (profile : Profile) (old : Option Item) (e : Entry) (key : List ℕ) (rose : Bool)
+    (deed : Deed)
     → is_deed_of key deed ≡ true → DeedStands profile old rose deed e
     → OneEntry old (record e { deed = deed }) (after_deed profile old deed e)
 one_entry profile old e key rose (Asked request) on stands =

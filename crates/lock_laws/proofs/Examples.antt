@@ -276,7 +276,10 @@ a_cookie_is_stale_after_its_own_release = stale
         (
           plain-sayable 0 2000 (Release 1) Done (omega arith)
               (omega arith) (omega arith) refl tt tt,
-          (writes-sayable 3000 (Locked 0 0 None) (omega arith) (omega arith, omega arith, tt) tt, tt),
+          (
+            writes-sayable 3000 (Locked 0 0 None) (omega arith) (omega arith, omega arith, tt) tt,
+            tt,
+          ),
         ),
       ),
     )
@@ -294,7 +297,8 @@ a_cookie_is_stale_after_a_forced_release = stale
     ∷ at 1 121500 (Release 1) 0 Done ∷ acquires 1 122000 20 3 ∷ []))
     (entry (writes 123000 (Locked 3 1 (Some 122000)))) 1
     (legal_if (stores 0 20 ∷ acquires 0 1000 20 1 ∷ at 1 121000 Acquire 2 (Locked 1 120 (Some 1000))
-    ∷ at 1 121500 (Release 1) 0 Done ∷ acquires 1 122000 20 3 ∷ writes 123000 (Locked 3 1 (Some 122000)) ∷ []) (
+    ∷ at 1 121500 (Release 1) 0 Done ∷ acquires 1 122000 20 3 ∷ writes 123000 (Locked 3 1 (Some
+    122000)) ∷ []) (
       stores-sayable 0 20 (omega arith) (omega arith) (omega arith),
       (
         acquires-sayable 0 1000 20 1 (omega arith) (omega arith) (omega arith) (omega arith)
@@ -346,7 +350,8 @@ pub a_cookie_is_stale_when_its_item_expired_and_came_again : IsStale
 a_cookie_is_stale_when_its_item_expired_and_came_again =
     stale (entries (stores 0 1 ∷ acquires 0 1000 1 1 ∷ stores 61000 1 ∷ []))
     (entry (writes 62000 (Locked 0 0 None))) 1
-    (legal_if (stores 0 1 ∷ acquires 0 1000 1 1 ∷ stores 61000 1 ∷ writes 62000 (Locked 0 0 None) ∷ []) (
+    (legal_if (stores 0 1 ∷ acquires 0 1000 1 1 ∷ stores 61000 1 ∷ writes 62000 (Locked 0 0 None) ∷
+    []) (
       stores-sayable 0 1 (omega arith) (omega arith) (omega arith),
       (
         acquires-sayable 0 1000 1 1 (omega arith) (omega arith) (omega arith) (omega arith)
@@ -534,10 +539,13 @@ pub no_reset_moves_the_end_of_a_lock : (force : IsInForce newest ending 0 key 7
     (entries (at 1 499 Reset 0 Done ∷ [])) 500) → force.until ≡ [] → force.since
     ≡ entries (at 1 499 Reset 0 Done ∷ []) → ⊥
 no_reset_moves_the_end_of_a_lock force first rest =
-    let late : 500 < runs_out force.grant (last_life (life_of (item_after_in newest ending 0 [] key))
+    let late : 500 < runs_out force.grant (last_life (life_of (item_after_in newest ending 0 []
+    key))
     (on_key key (entries (at 1 499 Reset 0 Done ∷ [])))) =
-    subst (λ es. 500 < runs_out force.grant (last_life (life_of (item_after_in newest ending 0 [] key))
+    subst (λ es. 500 < runs_out force.grant (last_life (life_of (item_after_in newest ending 0 []
+    key))
     (on_key key es))) rest
-    (subst (λ es. 500 < runs_out force.grant (last_life (life_of (item_after_in newest ending 0 es key))
+    (subst (λ es. 500 < runs_out force.grant (last_life (life_of (item_after_in newest ending 0 es
+    key))
     (on_key key force.since))) first force.in_time) in
     omega (arith, late)

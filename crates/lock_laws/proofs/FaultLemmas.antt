@@ -16,15 +16,18 @@ use Rattle.lock_laws.specs.Laws.{FaultsAreCounted}
 
 -- the entries of a key that is not among the first go on from the same item
 behind : (profile : Profile) (b : Bool) (old : Option Item) (m : Marked) (ms : List Marked)
-    → Lead profile old (cond b (m ∷ ms) ms) → Lead profile (cond b (after_entry profile old m) old) ms
+    → Lead profile old (cond b (m ∷ ms) ms) → Lead profile (cond b (after_entry profile old m) old)
+    ms
 behind profile true old m ms lead = lead.1
 behind profile false old m ms lead = lead
 
 -- the first entry, where the key's it is, stands on the key's item
-first : (profile : Profile) (b : Bool) (old : Option Item) (m : Marked) (ms : List Marked) → b ≡ true
+first : (profile : Profile) (b : Bool) (old : Option Item) (m : Marked) (ms : List Marked)
+    → b ≡ true
     → Lead profile old (cond b (m ∷ ms) ms) → DeedStands profile old m.0 m.1.deed m.1
 first profile b old m ms is lead =
-    let here : Lead profile old (m ∷ ms) = subst (λ c. Lead profile old (cond c (m ∷ ms) ms)) is lead in
+    let here : Lead profile old (m ∷ ms) = subst (λ c. Lead profile old (cond c (m ∷ ms) ms)) is
+    lead in
     here.0
 
 -- with no count that rose a deed is not answered with a fault
@@ -55,7 +58,10 @@ never profile items [] lead looks none = tt
 never profile items (e ∷ es) lead looks none =
     let same : marked 0 (e ∷ es) ≡ (false, e) ∷ marked 0 es =
     ap (λ n. (has_risen 0 n, e) ∷ marked n es) none.0 in
-    let lead' : (key : List ℕ) → Lead profile (items key) (entries_of key ((false, e) ∷ marked 0 es)) =
+    let lead' : (key : List ℕ) → Lead profile (items key) (entries_of key ((
+      false,
+      e,
+    ) ∷ marked 0 es)) =
     λ key. subst (λ ms. Lead profile (items key) (entries_of key ms)) same (lead key) in
     let looks' : AllByRecursion (λ m. LookStands m.0 m.1.deed m.1.reply)
     ((false, e) ∷ marked 0 es) =
@@ -64,12 +70,19 @@ never profile items (e ∷ es) lead looks none =
           (λ key is. first profile (is_deed_of key e.deed) (items key) (false, e) _ is (lead' key))
           looks'.0,
       never profile
-          (λ key. cond (is_deed_of key e.deed) (after_entry profile (items key) (false, e)) (items key)) es
-          (λ key. behind profile (is_deed_of key e.deed) (items key) (false, e) _ (lead' key)) looks'.1
+          (λ key. cond (is_deed_of key e.deed) (after_entry profile (items key) (
+            false,
+            e,
+          )) (items key)) es
+          (λ key. behind profile (is_deed_of key e.deed) (items key) (
+            false,
+            e,
+          ) _ (lead' key)) looks'.1
           none.1,
     )
 
-pub faults-counted : (profile : Profile) (opening : List ℕ → Option Item) (list : List Entry) → IsLegalIn profile opening 0 list
+pub faults-counted : (profile : Profile) (opening : List ℕ → Option Item) (list : List Entry)
+    → IsLegalIn profile opening 0 list
     → FaultsAreCounted list
 faults-counted profile opening list legal = never profile opening list legal.keys legal.looks
 

@@ -32,14 +32,20 @@ entries_of-append key (m ∷ ms) ns =
     ap (λ es. cond (is_deed_of key m.1.deed) (m ∷ es) es) (entries_of-append key ms ns)
     ∙ cond-append (is_deed_of key m.1.deed) m (entries_of key ms) (entries_of key ns)
 
-Lead-behind : (profile : Profile) (old : Option Item) (ms ns : List Marked) → Lead profile old (ms ++ ns)
+Lead-behind : (profile : Profile) (old : Option Item) (ms ns : List Marked)
+    → Lead profile old (ms ++ ns)
     → Lead profile (after_entries profile old ms) ns
 Lead-behind profile old [] ns p = p
 Lead-behind profile old (m ∷ ms) ns p = Lead-behind profile (after_entry profile old m) ms ns p.1
 
-Lead-front : (profile : Profile) (old : Option Item) (ms ns : List Marked) → Lead profile old (ms ++ ns) → Lead profile old ms
+Lead-front : (profile : Profile) (old : Option Item) (ms ns : List Marked)
+    → Lead profile old (ms ++ ns) → Lead profile old ms
 Lead-front profile old [] ns p = tt
-Lead-front profile old (m ∷ ms) ns p = (p.0, Lead-front profile (after_entry profile old m) ms ns p.1)
+Lead-front profile old (m ∷ ms) ns p = (
+  p.0,
+  Lead-front profile (after_entry profile old m) ms ns
+      p.1,
+)
 
 All-front : {X : Type 0} (P : X → Type 0) (xs ys : List X) → AllByRecursion P (xs ++ ys)
     → AllByRecursion P xs
@@ -56,7 +62,8 @@ DrawsRise-front above [] ys p = tt
 DrawsRise-front above (x ∷ xs) ys p = (p.0, DrawsRise-front (max above x.drawn) xs ys p.1)
 
 -- each front of a legal history is legal
-pub IsLegal-front : (profile : Profile) (opening : List ℕ → Option Item) (count : ℕ) (xs ys : List Entry)
+pub IsLegal-front : (profile : Profile) (opening : List ℕ → Option Item) (count : ℕ) (xs ys : List
+    Entry)
     → IsLegalIn profile opening count (xs ++ ys) → IsLegalIn profile opening count xs
 IsLegal-front profile opening count xs ys legal = record {
   formed = All-front IsFormed xs ys legal.formed;
@@ -82,10 +89,12 @@ abbrev pub rose_at : ℕ → List Entry → Entry → Bool
 rose_at count before e = has_risen (count_after count before) e.faults
 
 -- each deed of a legal history may be done where it stands
-pub deed-stands : (profile : Profile) (opening : List ℕ → Option Item) (count : ℕ) (list : List Entry) (key : List ℕ)
+pub deed-stands : (profile : Profile) (opening : List ℕ → Option Item) (count : ℕ) (list : List
+    Entry) (key : List ℕ)
     (before behind : List Entry) (e : Entry) → IsLegalIn profile opening count list
     → list ≡ before ++ e ∷ behind → is_deed_of key e.deed ≡ true
-    → DeedStands profile (item_after_in profile opening count before key) (rose_at count before e) e.deed e
+    → DeedStands profile (item_after_in profile opening count before key) (rose_at count before e)
+    e.deed e
 deed-stands profile opening count list key before behind e legal place same =
     let m : Marked = (rose_at count before e, e) in
     let parts : entries_of key (marked count list) ≡ entries_of key (marked count before) ++ m
@@ -101,7 +110,8 @@ deed-stands profile opening count list key before behind e legal place same =
     (subst (Lead profile (opening key)) parts (legal.keys key))).0
 
 -- the rows of a key in a legal history
-pub run-of_legal : (profile : Profile) (opening : List ℕ → Option Item) (count : ℕ) (list : List Entry) (key : List ℕ)
+pub run-of_legal : (profile : Profile) (opening : List ℕ → Option Item) (count : ℕ) (list : List
+    Entry) (key : List ℕ)
     → IsLegalIn profile opening count list
     → IsRun (λ es. item_after_in profile opening count es key) opening key list
 run-of_legal profile opening count list key legal = record {
@@ -109,7 +119,8 @@ run-of_legal profile opening count list key legal = record {
   same = λ before behind e place same.
       subst (OneEntry (item_after_in profile opening count before key) e)
       (sym (item_after-same profile opening count before e key same))
-      (one_entry profile (item_after_in profile opening count before key) e key (rose_at count before e) e.deed same
+      (one_entry profile (item_after_in profile opening count before key) e key (rose_at count
+      before e) e.deed same
       (deed-stands profile opening count list key before behind e legal place same));
   other = λ before behind e place other. item_after-other profile opening count before e key other;
 }
@@ -166,7 +177,8 @@ data Source (opening : List ℕ → Option Item) (key : List ℕ) (list until : 
       → granted e.reply ≡ Some grant → e.drawn ≡ grant.cookie → 0 < e.drawn
       → Source opening key list until grant
 
-source : (profile : Profile) (opening : List ℕ → Option Item) (count : ℕ) (list : List Entry) (key : List ℕ)
+source : (profile : Profile) (opening : List ℕ → Option Item) (count : ℕ) (list : List Entry) (key :
+    List ℕ)
     (until behind : List Entry) (grant : Grant) → IsLegalIn profile opening count list
     → list ≡ until ++ behind → last_grant opening key until ≡ Some grant
     → Source opening key list until grant
@@ -189,7 +201,8 @@ source profile opening count list key until behind grant legal place is = elim (
         by_key true same =
             let given : granted e.reply ≡ Some grant =
             sym (ap (λ b. cond b (granted e.reply) None) same) ∙ ended in
-            let gives = ((run-of_legal profile opening count list key legal).same xs behind e at same).gives
+            let gives = ((run-of_legal profile opening count list key legal).same xs behind e at
+            same).gives
             grant given in
             at_entry xs behind e so at given gives.1 gives.2
         by_key false other =
@@ -197,7 +210,8 @@ source profile opening count list key until behind grant legal place is = elim (
             ∙ ended in absurd (cc nothing)
 
 -- no item is held at the beginning under a cookie that is drawn
-drawn-fresh : (profile : Profile) (opening : List ℕ → Option Item) (count : ℕ) (list : List Entry) (key : List ℕ)
+drawn-fresh : (profile : Profile) (opening : List ℕ → Option Item) (count : ℕ) (list : List Entry)
+    (key : List ℕ)
     (xs ys : List Entry) (e : Entry) (grant : Grant) → IsLegalIn profile opening count list
     → list ≡ xs ++ e ∷ ys → 0 < e.drawn → grant_of (opening key) ≡ Some grant
     → grant.cookie < e.drawn
@@ -208,7 +222,8 @@ drawn-fresh profile opening count list key xs ys e grant legal place some is =
     place legal.fresh_draws) some key)
 
 -- two grants of one cookie are one
-one-source : (profile : Profile) (opening : List ℕ → Option Item) (count : ℕ) (list : List Entry) (key : List ℕ)
+one-source : (profile : Profile) (opening : List ℕ → Option Item) (count : ℕ) (list : List Entry)
+    (key : List ℕ)
     (until other : List Entry) (grant granted_too : Grant) → IsLegalIn profile opening count list
     → grant.cookie ≡ granted_too.cookie → Source opening key list until grant
     → Source opening key list other granted_too → (until ≡ other) × (grant ≡ granted_too)
@@ -236,18 +251,22 @@ one-source profile opening count list key until other grant too legal same
       cc (given, gave, replies),
     )
 
-pub one-grant : (profile : Profile) (opening : List ℕ → Option Item) (count : ℕ) (list : List Entry) (key : List ℕ)
+pub one-grant : (profile : Profile) (opening : List ℕ → Option Item) (count : ℕ) (list : List Entry)
+    (key : List ℕ)
     (before behind until since other later : List Entry) (grant too : Grant)
     → IsLegalIn profile opening count list → list ≡ before ++ behind → grant.cookie ≡ too.cookie
     → IsGranted opening key grant before until since
     → IsGranted opening key too before other later
     → (until ≡ other) × (grant ≡ too)
-one-grant profile opening count list key before behind until since other later grant too legal place same
+one-grant profile opening count list key before behind until since other later grant too legal place
+    same
     one two =
     one-source profile opening count list key until other grant too legal same
-    (source profile opening count list key until (since ++ behind) grant legal (at until since one.parts)
+    (source profile opening count list key until (since ++ behind) grant legal (at until since
+    one.parts)
     one.granted)
-    (source profile opening count list key other (later ++ behind) too legal (at other later two.parts)
+    (source profile opening count list key other (later ++ behind) too legal (at other later
+    two.parts)
     two.granted)
   where
     at : (xs ys : List Entry) → before ≡ xs ++ ys → list ≡ xs ++ (ys ++ behind)

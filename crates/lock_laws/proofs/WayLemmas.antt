@@ -34,13 +34,17 @@ reply-of : (reply : Reply) (new : Option Item) (does : Effect) → (reply, new) 
     → does.0 ≡ reply
 reply-of reply new does is = sym (ap (λ (d : Effect). d.0) is)
 
-content-there : (profile : Profile) (old : Option Item) (item : Item) (t drawn : ℕ) (ask : Ask) (cookie seconds : ℕ) (told : Option ℕ)
+content-there : (profile : Profile) (old : Option Item) (item : Item) (t drawn : ℕ) (ask : Ask)
+    (cookie seconds : ℕ) (told : Option ℕ)
     (holder : Option Hold) → old ≡ Some item → is_live item t ≡ true → item.holder ≡ holder
     → is_content_ask ask ≡ true → (on_there profile item holder t drawn ask).0
     ≡ replies.Locked cookie seconds told → FindsLock old t cookie seconds
-content-there profile old item t drawn Read cookie seconds told None there live held asks is = absurd (cc is)
-content-there profile old item t drawn Acquire cookie seconds told None there live held asks is = absurd (cc is)
-content-there profile old item t drawn Read cookie seconds told (Some hold) there live held asks is =
+content-there profile old item t drawn Read cookie seconds told None there live held asks is =
+    absurd (cc is)
+content-there profile old item t drawn Acquire cookie seconds told None there live held asks is =
+    absurd (cc is)
+content-there profile old item t drawn Read cookie seconds told (Some hold) there live held asks is
+    =
     record {
       item = item;
       hold = hold;
@@ -51,7 +55,8 @@ content-there profile old item t drawn Read cookie seconds told (Some hold) ther
           cc is;
       held_for = cc is;
     }
-content-there profile old item t drawn Acquire cookie seconds told (Some hold) there live held asks is =
+content-there profile old item t drawn Acquire cookie seconds told (Some hold) there live held asks
+    is =
     record {
       item = item;
       hold = hold;
@@ -62,52 +67,67 @@ content-there profile old item t drawn Acquire cookie seconds told (Some hold) t
           cc is;
       held_for = cc is;
     }
-content-there profile old item t drawn ask cookie seconds told holder there live held asks is = absurd (cc asks)
+content-there profile old item t drawn ask cookie seconds told holder there live held asks is =
+    absurd (cc asks)
 
-content-live : (profile : Profile) (old : Option Item) (item : Item) (t drawn : ℕ) (ask : Ask) (cookie seconds : ℕ) (told : Option ℕ)
+content-live : (profile : Profile) (old : Option Item) (item : Item) (t drawn : ℕ) (ask : Ask)
+    (cookie seconds : ℕ) (told : Option ℕ)
     (b : Bool) → old ≡ Some item → is_live item t ≡ b → is_content_ask ask ≡ true
     → (on_seen profile (cond b (Some item) None) t drawn ask).0 ≡ replies.Locked cookie seconds told
     → FindsLock old t cookie seconds
 content-live profile old item t drawn ask cookie seconds told true there live asks is =
-    content-there profile old item t drawn ask cookie seconds told item.holder there live refl asks is
-content-live profile old item t drawn Read cookie seconds told false there live asks is = absurd (cc is)
-content-live profile old item t drawn Acquire cookie seconds told false there live asks is = absurd (cc is)
-content-live profile old item t drawn ask cookie seconds told false there live asks is = absurd (cc asks)
+    content-there profile old item t drawn ask cookie seconds told item.holder there live refl asks
+    is
+content-live profile old item t drawn Read cookie seconds told false there live asks is =
+    absurd (cc is)
+content-live profile old item t drawn Acquire cookie seconds told false there live asks is =
+    absurd (cc is)
+content-live profile old item t drawn ask cookie seconds told false there live asks is =
+    absurd (cc asks)
 
-content-seen : (profile : Profile) (old : Option Item) (t drawn : ℕ) (ask : Ask) (cookie seconds : ℕ) (told : Option ℕ)
+content-seen : (profile : Profile) (old : Option Item) (t drawn : ℕ) (ask : Ask) (cookie seconds :
+    ℕ) (told : Option ℕ)
     → is_content_ask ask ≡ true
     → (on_seen profile (seen old t) t drawn ask).0 ≡ replies.Locked cookie seconds told
     → FindsLock old t cookie seconds
 content-seen profile (Some item) t drawn ask cookie seconds told asks is =
-    content-live profile (Some item) item t drawn ask cookie seconds told (is_live item t) refl refl asks is
+    content-live profile (Some item) item t drawn ask cookie seconds told (is_live item t) refl refl
+    asks is
 content-seen profile None t drawn Read cookie seconds told asks is = absurd (cc is)
 content-seen profile None t drawn Acquire cookie seconds told asks is = absurd (cc is)
 content-seen profile None t drawn ask cookie seconds told asks is = absurd (cc asks)
 
 -- an acquire that was answered with a lock had a cookie
-acquire-drew : (profile : Profile) (old : Option Item) (t drawn cookie seconds : ℕ) (told : Option ℕ) (b : Bool)
+acquire-drew : (profile : Profile) (old : Option Item) (t drawn cookie seconds : ℕ) (told : Option
+    ℕ) (b : Bool)
     → (cond b (replies.CookiesOut, old) (on_seen profile (seen old t) t drawn Acquire)).0
     ≡ replies.Locked cookie seconds told
     → (on_seen profile (seen old t) t drawn Acquire).0 ≡ replies.Locked cookie seconds told
 acquire-drew profile old t drawn cookie seconds told true is = absurd (cc is)
 acquire-drew profile old t drawn cookie seconds told false is = is
 
-finds-lock : (profile : Profile) (old : Option Item) (ask : Ask) (at : Circumstances) (cookie seconds : ℕ) (told : Option ℕ)
+finds-lock : (profile : Profile) (old : Option Item) (ask : Ask) (at : Circumstances) (cookie
+    seconds : ℕ) (told : Option ℕ)
     (new : Option Item) → is_content_ask ask ≡ true
-    → Step profile old ask at (replies.Locked cookie seconds told) new → FindsLock old at.moment cookie seconds
+    → Step profile old ask at (replies.Locked cookie seconds told) new
+    → FindsLock old at.moment cookie seconds
 finds-lock profile old Read at cookie seconds told new asks step =
     content-seen profile old at.moment at.drawn Read cookie seconds told asks
-    (reply-of (replies.Locked cookie seconds told) new (effect profile old at.moment at.drawn Read) step)
+    (reply-of (replies.Locked cookie seconds told) new (effect profile old at.moment at.drawn Read)
+    step)
 finds-lock profile old Acquire at cookie seconds told new asks step =
     content-seen profile old at.moment at.drawn Acquire cookie seconds told asks
     (acquire-drew profile old at.moment at.drawn cookie seconds told _
-    (reply-of (replies.Locked cookie seconds told) new (effect profile old at.moment at.drawn Acquire) step))
+    (reply-of (replies.Locked cookie seconds told) new (effect profile old at.moment at.drawn
+    Acquire) step))
 finds-lock profile old ask at cookie seconds told new asks step = absurd (cc asks)
 
-asked-finds : (profile : Profile) (old : Option Item) (rose : Bool) (deed : Deed) (e : Entry) (cookie seconds : ℕ) (told : Option ℕ)
+asked-finds : (profile : Profile) (old : Option Item) (rose : Bool) (deed : Deed) (e : Entry)
+    (cookie seconds : ℕ) (told : Option ℕ)
     → is_asked is_content_ask deed ≡ true → e.reply ≡ replies.Locked cookie seconds told
     → DeedStands profile old rose deed e → FindsLock old e.moment cookie seconds
-asked-finds profile old rose (Asked request) e cookie seconds told asks is step = by_reply e.reply is step
+asked-finds profile old rose (Asked request) e cookie seconds told asks is step =
+    by_reply e.reply is step
   where
     by_reply : (reply : Reply) → reply ≡ replies.Locked cookie seconds told
         → DeedStands profile old rose (Asked request) (record e { reply = reply })
@@ -120,10 +140,15 @@ asked-finds profile old rose (Expired key) e cookie seconds told asks is step = 
 asked-finds profile old rose Looked e cookie seconds told asks is step = absurd (cc asks)
 
 -- the lock that was found is in force
-found-in_force : (profile : Profile) (opening : List ℕ → Option Item) (count : ℕ) (list : List Entry) (key : List ℕ)
+found-in_force : (profile : Profile) (opening : List ℕ → Option Item) (count : ℕ) (list : List
+    Entry) (key : List ℕ)
     (before : List Entry) (e : Entry) (cookie seconds : ℕ) → IsLegalIn profile opening count list
-    → StandsAt list key before e → FindsLock (item_after_in profile opening count before key) e.moment cookie
-    seconds → IsInForceFor profile opening count key (record { cookie = cookie; seconds = seconds }) before
+    → StandsAt list key before e → FindsLock (item_after_in profile opening count before key)
+    e.moment cookie
+    seconds → IsInForceFor profile opening count key (record {
+      cookie = cookie;
+      seconds = seconds;
+    }) before
     e.moment
 found-in_force profile opening count list key before e cookie seconds legal at found =
     let grant : Grant = record {
@@ -150,10 +175,12 @@ found-in_force profile opening count list key before e cookie seconds legal at f
         → t < min (item.touched + item.minutes * 60000) item.ends
     live-before item t live = grind (arith, nat_tests)
 
-pub lock_in_the_way : (profile : Profile) (opening : List ℕ → Option Item) (count : ℕ) (list : List Entry)
+pub lock_in_the_way : (profile : Profile) (opening : List ℕ → Option Item) (count : ℕ) (list : List
+    Entry)
     → IsLegalIn profile opening count list → LockInTheWayIsInForce profile opening count list
 lock_in_the_way profile opening count list legal key before e cookie seconds told at asks is =
     found-in_force profile opening count list key before e cookie seconds legal at
-    (asked-finds profile (item_after_in profile opening count before key) (rose_at count before e) e.deed e cookie
+    (asked-finds profile (item_after_in profile opening count before key) (rose_at count before e)
+    e.deed e cookie
     seconds told asks is
     (deed-stands profile opening count list key before at.behind e legal at.place at.on_key))

@@ -135,7 +135,8 @@ life_of None = record { touched = 0; end = 0 }
 life_of (Some item) = record { touched = item.touched; end = item.ends }
 
 -- The lock of the cookie is in force for the key at a moment behind the entries before, which are a
--- history of the profile: it was granted, no entry of the key since then has ended it, and it has not run out.
+-- history of the profile: it was granted, no entry of the key since then has ended it, and it has
+-- not run out.
 pub record IsInForce (profile : Profile) (opening : List ℕ → Option Item) (count : ℕ)
     (key : List ℕ) (cookie : ℕ) (before : List Entry) (moment : ℕ) : Type 0 where
   pub grant : Grant

@@ -243,7 +243,8 @@ ok_of fields body = ok_reply (once fields (codes "Timeout")) body
 -- what another status says
 abbrev other_of : ℕ → List Field → Option Reply
 other_of status fields = cond (status == 423)
-    (locked_reply (holder_field fields) (age_field fields) (since_field fields)) (plain_reply status)
+    (locked_reply (holder_field fields) (age_field fields) (since_field fields)) (plain_reply
+    status)
 
 by_status : (b : Bool) (status : ℕ) (fields : List Field) (body : List ℕ) → (status == 200) ≡ b
     → filled_answer (strange_unless status (cond b (ok_of fields []) (other_of status fields))) body

@@ -18,3 +18,5 @@ mod serving;
 mod sockets;
 #[cfg(test)]
 mod streams;
+#[cfg(test)]
+mod visits;

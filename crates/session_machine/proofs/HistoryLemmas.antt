@@ -34,12 +34,17 @@ entries_of-append key (m ∷ ms) ns =
 after_entries-append : (profile : Profile) (old : Option Item) (ms ns : List Marked)
     → after_entries profile old (ms ++ ns) ≡ after_entries profile (after_entries profile old ms) ns
 after_entries-append profile old [] ns = refl
-after_entries-append profile old (m ∷ ms) ns = after_entries-append profile (after_entry profile old m) ms ns
+after_entries-append profile old (m ∷ ms) ns = after_entries-append profile (after_entry profile old
+    m) ms ns
 
 Lead-append : (profile : Profile) (old : Option Item) (ms ns : List Marked) → Lead profile old ms
     → Lead profile (after_entries profile old ms) ns → Lead profile old (ms ++ ns)
 Lead-append profile old [] ns p q = q
-Lead-append profile old (m ∷ ms) ns p q = (p.0, Lead-append profile (after_entry profile old m) ms ns p.1 q)
+Lead-append profile old (m ∷ ms) ns p q = (
+  p.0,
+  Lead-append profile (after_entry profile old m) ms
+      ns p.1 q,
+)
 
 -- the entries of a key with one entry more
 entries_of-push : (key : List ℕ) (count : ℕ) (es : List Entry) (e : Entry)
@@ -49,16 +54,19 @@ entries_of-push key count es e = ap (entries_of key) (marked-push count es e)
     ∙ entries_of-append key (marked count es) _
 
 -- a key of which the entry is not stays as it is
-pub item_after-other : (profile : Profile) (opening : List ℕ → Option Item) (count : ℕ) (es : List Entry) (e : Entry)
+pub item_after-other : (profile : Profile) (opening : List ℕ → Option Item) (count : ℕ) (es : List
+    Entry) (e : Entry)
     (key : List ℕ) → is_deed_of key e.deed ≡ false
-    → item_after_in profile opening count (es ++ e ∷ []) key ≡ item_after_in profile opening count es key
+    → item_after_in profile opening count (es ++ e ∷ []) key ≡ item_after_in profile opening count
+    es key
 item_after-other profile opening count es e key other =
     ap (after_entries profile (opening key)) (entries_of-push key count es e
     ∙ ap (λ b. entries_of key (marked count es)
     ++ cond b ((has_risen (count_after count es) e.faults, e) ∷ []) []) other ∙ append-nil _)
 
 -- a key of which it is goes on to its state after it
-pub item_after-same : (profile : Profile) (opening : List ℕ → Option Item) (count : ℕ) (es : List Entry) (e : Entry)
+pub item_after-same : (profile : Profile) (opening : List ℕ → Option Item) (count : ℕ) (es : List
+    Entry) (e : Entry)
     (key : List ℕ) → is_deed_of key e.deed ≡ true
     → item_after_in profile opening count (es ++ e ∷ []) key
     ≡ after_entry profile (item_after_in profile opening count es key)
@@ -111,14 +119,16 @@ fresh-held_below opening es drawn (inl none) some = absurd (omega (arith, none, 
 fresh-held_below opening es drawn (inr fresh) some = fresh.1
 
 -- the entry may stand behind the history
-pub record MayFollow (profile : Profile) (opening : List ℕ → Option Item) (count : ℕ) (list : List Entry) (e : Entry) :
+pub record MayFollow (profile : Profile) (opening : List ℕ → Option Item) (count : ℕ) (list : List
+    Entry) (e : Entry) :
     Type 0 where
   pub formed : IsFormed e
   pub counts : count_after count list ≤ e.faults
   pub draws : (e.drawn ≡ 0) ⊎ (greatest_draw 0 list < e.drawn)
   pub fresh_draws : 0 < e.drawn → (key : List ℕ) → IsHeldBelow e.drawn (opening key)
   pub keys : (key : List ℕ) → is_deed_of key e.deed ≡ true
-      → DeedStands profile (item_after_in profile opening count list key) (has_risen (count_after count list) e.faults)
+      → DeedStands profile (item_after_in profile opening count list key) (has_risen (count_after
+      count list) e.faults)
       e.deed e
   pub looks : LookStands (has_risen (count_after count list) e.faults) e.deed e.reply
 
@@ -127,7 +137,8 @@ last_lead : (profile : Profile) (b : Bool) (old : Option Item) (m : Marked)
 last_lead profile true old m h = (h refl, tt)
 last_lead profile false old m h = tt
 
-pub IsLegal-push : (profile : Profile) (opening : List ℕ → Option Item) (count : ℕ) (list : List Entry) (e : Entry)
+pub IsLegal-push : (profile : Profile) (opening : List ℕ → Option Item) (count : ℕ) (list : List
+    Entry) (e : Entry)
     → IsLegalIn profile opening count list → MayFollow profile opening count list e
     → IsLegalIn profile opening count (list ++ e ∷ [])
 IsLegal-push profile opening count list e legal may = record {
@@ -192,17 +203,24 @@ DrawsRise-behind : (above : ℕ) (es fs : List Entry) → DrawsRise above (es ++
 DrawsRise-behind above [] fs p = p
 DrawsRise-behind above (e ∷ es) fs p = DrawsRise-behind (max above e.drawn) es fs p.1
 
-Lead-front : (profile : Profile) (old : Option Item) (ms ns : List Marked) → Lead profile old (ms ++ ns) → Lead profile old ms
+Lead-front : (profile : Profile) (old : Option Item) (ms ns : List Marked)
+    → Lead profile old (ms ++ ns) → Lead profile old ms
 Lead-front profile old [] ns p = tt
-Lead-front profile old (m ∷ ms) ns p = (p.0, Lead-front profile (after_entry profile old m) ms ns p.1)
+Lead-front profile old (m ∷ ms) ns p = (
+  p.0,
+  Lead-front profile (after_entry profile old m) ms ns
+      p.1,
+)
 
-Lead-behind : (profile : Profile) (old : Option Item) (ms ns : List Marked) → Lead profile old (ms ++ ns)
+Lead-behind : (profile : Profile) (old : Option Item) (ms ns : List Marked)
+    → Lead profile old (ms ++ ns)
     → Lead profile (after_entries profile old ms) ns
 Lead-behind profile old [] ns p = p
 Lead-behind profile old (m ∷ ms) ns p = Lead-behind profile (after_entry profile old m) ms ns p.1
 
 -- each front of a legal history is legal
-pub IsLegal-front : (profile : Profile) (opening : List ℕ → Option Item) (count : ℕ) (es fs : List Entry)
+pub IsLegal-front : (profile : Profile) (opening : List ℕ → Option Item) (count : ℕ) (es fs : List
+    Entry)
     → IsLegalIn profile opening count (es ++ fs) → IsLegalIn profile opening count es
 IsLegal-front profile opening count es fs legal = record {
   formed = All-front IsFormed es fs legal.formed;
@@ -217,13 +235,15 @@ IsLegal-front profile opening count es fs legal = record {
       legal.looks);
 }
 
-first_leads : (profile : Profile) (b : Bool) (old : Option Item) (m : Marked) (ms : List Marked) → b ≡ true
+first_leads : (profile : Profile) (b : Bool) (old : Option Item) (m : Marked) (ms : List Marked)
+    → b ≡ true
     → Lead profile old (cond b (m ∷ ms) ms) → DeedStands profile old m.0 m.1.deed m.1
 first_leads profile true old m ms is lead = lead.0
 first_leads profile false old m ms is lead = absurd (cc is)
 
 -- each entry of a legal history may stand where it stands
-pub IsLegal-at : (profile : Profile) (opening : List ℕ → Option Item) (count : ℕ) (es fs : List Entry) (e : Entry)
+pub IsLegal-at : (profile : Profile) (opening : List ℕ → Option Item) (count : ℕ) (es fs : List
+    Entry) (e : Entry)
     → IsLegalIn profile opening count (es ++ e ∷ fs) → MayFollow profile opening count es e
 IsLegal-at profile opening count es fs e legal = record {
   formed = (All-behind IsFormed es (e ∷ fs) legal.formed).0;
@@ -235,7 +255,8 @@ IsLegal-at profile opening count es fs e legal = record {
       first_leads profile (is_deed_of key e.deed) (item_after_in profile opening count es key)
       (has_risen (count_after count es) e.faults, e) _ same
       (Lead-behind profile (opening key) (entries_of key (marked count es)) _
-      (subst (Lead profile (opening key)) (entries_of-parts key count es (e ∷ fs)) (legal.keys key)));
+      (subst (Lead profile (opening key)) (entries_of-parts key count es (e ∷ fs)) (legal.keys
+      key)));
   looks = (All-behind (λ m. LookStands m.0 m.1.deed m.1.reply) (marked count es) _
       (subst (AllByRecursion (λ m. LookStands m.0 m.1.deed m.1.reply))
       (marked-append count es (e ∷ fs)) legal.looks)).0;

@@ -17,7 +17,8 @@ use Rattle.session_machine.specs.Profiles.{end_of, told_since}
 use Rattle.session_machine.specs.History.{DrawFits, HasPlace, after_reply}
 
 -- the state after a step is the one that its reply fixes
-pub Step-fixes : (profile : Profile) (old new : Option Item) (ask : Ask) (at : Circumstances) (reply : Reply)
+pub Step-fixes : (profile : Profile) (old new : Option Item) (ask : Ask) (at : Circumstances) (reply
+    : Reply)
     → Step profile old ask at reply new → new ≡ after_reply profile old at.moment at.drawn ask reply
 Step-fixes profile old new ask at replies.NoMemory h = h
 Step-fixes profile old new ask at replies.KeeperFault h = h.1
@@ -49,7 +50,8 @@ end-fits One t le = omega arith
 end-fits Two t le = omega arith
 end-fits Three t le = omega arith
 
-absent-fits : (profile : Profile) (t : ℕ) (ask : Ask) → t ≤ 2 ^ 62 → AskFits ask → EffectFits (on_absent profile t ask)
+absent-fits : (profile : Profile) (t : ℕ) (ask : Ask) → t ≤ 2 ^ 62 → AskFits ask
+    → EffectFits (on_absent profile t ask)
 absent-fits profile t Read le fits = (tt, tt, tt)
 absent-fits profile t Acquire le fits = (tt, tt, tt)
 absent-fits profile t (Release cookie) le fits = (tt, tt, tt)
@@ -164,8 +166,10 @@ either false x y p q = q
 held-fits : (profile : Profile) (item : Item) (hold : Hold) (t : ℕ) (ask : Ask) → t ≤ 2 ^ 62
     → hold.cookie < 2 ^ 63 → hold.since ≤ 2 ^ 62
     → ItemFits item → AskFits ask → EffectFits (on_held profile item hold t ask)
-held-fits profile item hold t Read le small early fits asks = (way-fits profile hold t le small early, tt, fits)
-held-fits profile item hold t Acquire le small early fits asks = (way-fits profile hold t le small early, tt, fits)
+held-fits profile item hold t Read le small early fits asks =
+    (way-fits profile hold t le small early, tt, fits)
+held-fits profile item hold t Acquire le small early fits asks =
+    (way-fits profile hold t le small early, tt, fits)
 held-fits profile item hold t (Release cookie) le small early fits asks =
     either (cookie == hold.cookie) _ _ (
       tt,
@@ -182,7 +186,11 @@ held-fits profile item hold t (Release cookie) le small early fits asks =
       },
     )
     (way-fits profile hold t le small early, tt, fits)
-held-fits profile item hold t (Write body minutes true None) le small early fits asks = (tt, tt, fits)
+held-fits profile item hold t (Write body minutes true None) le small early fits asks = (
+  tt,
+  tt,
+  fits,
+)
 held-fits profile item hold t (Write body minutes false None) le small early fits asks =
     (way-fits profile hold t le small early, tt, fits)
 held-fits profile item hold t (Write body minutes true (Some cookie)) le small early fits asks =
@@ -217,9 +225,14 @@ held-fits profile item hold t (Write body minutes false (Some cookie)) le small 
       },
     )
     (way-fits profile hold t le small early, tt, fits)
-held-fits profile item hold t (Remove None) le small early fits asks = (way-fits profile hold t le small early, tt, fits)
+held-fits profile item hold t (Remove None) le small early fits asks =
+    (way-fits profile hold t le small early, tt, fits)
 held-fits profile item hold t (Remove (Some cookie)) le small early fits asks =
-    either (cookie == hold.cookie) _ _ (tt, tt, tt) (way-fits profile hold t le small early, tt, fits)
+    either (cookie == hold.cookie) _ _ (tt, tt, tt) (
+      way-fits profile hold t le small early,
+      tt,
+      fits,
+    )
 held-fits profile item hold t Reset le small early fits asks = (
   tt,
   tt,
@@ -235,7 +248,8 @@ held-fits profile item hold t Reset le small early fits asks = (
   },
 )
 
-there-fits : (profile : Profile) (item : Item) (holder : Option Hold) (t drawn : ℕ) (ask : Ask) → item.holder ≡ holder
+there-fits : (profile : Profile) (item : Item) (holder : Option Hold) (t drawn : ℕ) (ask : Ask)
+    → item.holder ≡ holder
     → t ≤ 2 ^ 62 → drawn < 2 ^ 63 → (ask ≡ Acquire → 0 < drawn) → ItemFits item → AskFits ask
     → EffectFits (on_there profile item holder t drawn ask)
 there-fits profile item None t drawn ask is le small some fits asks =
@@ -253,7 +267,8 @@ seen-fits (Some item) t fits = by_life (is_live item t)
     by_life true = fits
     by_life false = tt
 
-on_seen-fits : (profile : Profile) (old : Option Item) (t drawn : ℕ) (ask : Ask) → t ≤ 2 ^ 62 → drawn < 2 ^ 63
+on_seen-fits : (profile : Profile) (old : Option Item) (t drawn : ℕ) (ask : Ask) → t ≤ 2 ^ 62
+    → drawn < 2 ^ 63
     → (ask ≡ Acquire → 0 < drawn) → IfSome old ItemFits → AskFits ask
     → EffectFits (on_seen profile old t drawn ask)
 on_seen-fits profile None t drawn ask le small some fits asks = absent-fits profile t ask le asks
@@ -261,7 +276,8 @@ on_seen-fits profile (Some item) t drawn ask le small some fits asks =
     there-fits profile item item.holder t drawn ask refl le small some fits asks
 
 -- an effect is in range
-pub effect-fits : (profile : Profile) (old : Option Item) (t drawn : ℕ) (ask : Ask) → t ≤ 2 ^ 62 → drawn < 2 ^ 63
+pub effect-fits : (profile : Profile) (old : Option Item) (t drawn : ℕ) (ask : Ask) → t ≤ 2 ^ 62
+    → drawn < 2 ^ 63
     → IfSome old ItemFits → AskFits ask → EffectFits (effect profile old t drawn ask)
 effect-fits profile old t drawn Acquire le small fits asks = by_draw (drawn == 0) refl
   where
@@ -273,12 +289,14 @@ effect-fits profile old t drawn Acquire le small fits asks = by_draw (drawn == 0
 effect-fits profile old t drawn Read le small fits asks =
     on_seen-fits profile (seen old t) t drawn Read le small (λ e. cc) (seen-fits old t fits) asks
 effect-fits profile old t drawn (Release cookie) le small fits asks =
-    on_seen-fits profile (seen old t) t drawn (Release cookie) le small (λ e. cc) (seen-fits old t fits)
+    on_seen-fits profile (seen old t) t drawn (Release cookie) le small (λ e. cc) (seen-fits old t
+    fits)
     asks
 effect-fits profile old t drawn (Write body minutes fresh cookie) le small fits asks =
     on_seen-fits profile (seen old t) t drawn (Write body minutes fresh cookie) le small (λ e. cc)
     (seen-fits old t fits) asks
 effect-fits profile old t drawn (Remove cookie) le small fits asks =
-    on_seen-fits profile (seen old t) t drawn (Remove cookie) le small (λ e. cc) (seen-fits old t fits) asks
+    on_seen-fits profile (seen old t) t drawn (Remove cookie) le small (λ e. cc) (seen-fits old t
+    fits) asks
 effect-fits profile old t drawn Reset le small fits asks =
     on_seen-fits profile (seen old t) t drawn Reset le small (λ e. cc) (seen-fits old t fits) asks

@@ -85,7 +85,8 @@ after_reply profile old t drawn ask reply = (effect profile old t drawn ask).1
 
 -- the item after a deed
 abbrev pub after_deed : Profile → Option Item → Deed → Entry → Option Item
-after_deed profile old (Asked request) e = after_reply profile old e.moment e.drawn request.ask e.reply
+after_deed profile old (Asked request) e =
+    after_reply profile old e.moment e.drawn request.ask e.reply
 after_deed profile old (Expired key) e = None
 after_deed profile old Looked e = old
 

@@ -1,7 +1,6 @@
 -- The session machine: what each request is answered, and what it leaves of its session's item
--- ([MS-ASP], section 3.1.5;
--- the rules on cookies that are not in force, and on items that are absent, are this project's
--- own).
+-- ([MS-ASP], section 3.1.5; the rules on cookies that are not in force, and on items that are
+-- absent, are this project's own).
 use Rattle.std.specs.Prelude.{◌≡◌, ℕ, List, max, Bool, true, false, Option, Some, None, ◌==◌, if◌then◌else◌, IsTrue}
 use Rattle.asp_messages.specs.declared.request.Ask.{Ask}
 use Rattle.asp_messages.specs.declared.request.Ask.TheVariants.{Read, Acquire, Release, Write, Remove, Reset}
@@ -63,8 +62,8 @@ on_free item t drawn (Remove None) = (Done, None)
 on_free item t drawn (Remove (Some cookie)) = (Locked 0 0 None, Some item)
 on_free item t drawn Reset = (Done, Some (touch t item))
 
--- the reply where a lock is in the way: its cookie, its age, and in the newest profile the moment of
--- its acquisition
+-- the reply where a lock is in the way: its cookie, its age, and in the newest profile the moment
+-- of its acquisition
 abbrev pub in_the_way : Profile → Hold → ℕ → Reply
 in_the_way profile hold t = Locked hold.cookie (age hold t) (told_since profile hold)
 
@@ -117,8 +116,8 @@ pub record Circumstances : Type 0 where
   pub rose : Bool
 
 -- In this profile, from the item old, a request may in these circumstances be answered so and leave
--- new: by the
--- machine's own reply, or by want of memory or a counted fault of the keeper, which change nothing.
+-- new: by the machine's own reply, or by want of memory or a counted fault of the keeper, which
+-- change nothing.
 abbrev pub Step : Profile → Option Item → Ask → Circumstances → Reply → Option Item → Type 0
 Step profile old ask at NoMemory new = new ≡ old
 Step profile old ask at KeeperFault new = IsTrue at.rose × (new ≡ old)

@@ -13,7 +13,10 @@ use asp_messages::{Ask, Request};
 #[derive(Clone, Copy, Debug, PartialEq, Eq)]
 pub enum Kind {
     /// Cookie 0 is none.
-    Found { cookie: u64, first: bool },
+    Found {
+        cookie: u64,
+        first: bool,
+    },
     /// What was asked is done.
     Done,
     /// A lock is in the way: its cookie, 0 where there is none, its age in seconds, and where it is
@@ -234,15 +237,7 @@ fn on_held(profile: Profile, item: &Item, hold: Hold, ask: &Ask, t: u64) -> Verd
             ..
         } => {
             if *cookie == hold.cookie {
-                stored(
-                    Kind::Done,
-                    true,
-                    *minutes,
-                    *fresh,
-                    None,
-                    touched,
-                    item.ends,
-                )
+                stored(Kind::Done, true, *minutes, *fresh, None, touched, item.ends)
             } else {
                 in_the_way
             }
@@ -299,9 +294,9 @@ fn on_dead(profile: Profile, ask: &Ask, t: u64) -> Verdict
     }
 }
 
-/// What the session machine answers in this profile to a request at the moment `t`, and what becomes
-/// of the item. `drawn` is the cookie that was drawn for an acquire, 0 where none was left. It takes
-/// no memory.
+/// What the session machine answers in this profile to a request at the moment `t`, and what
+/// becomes of the item. `drawn` is the cookie that was drawn for an acquire, 0 where none was left.
+/// It takes no memory.
 pub fn decide(
     item: Option<&Item>,
     t: u64,
