@@ -11,6 +11,8 @@ mod history;
 #[cfg(test)]
 mod memory;
 #[cfg(test)]
+mod rude_peers;
+#[cfg(test)]
 mod serving;
 #[cfg(test)]
 mod sockets;
