@@ -59,8 +59,8 @@ fn say(peer: &TcpStream, sent: &[u8]) -> Option<()> {
 /// How long the longest content is, in bytes.
 const LONGEST: usize = 4_194_304;
 
-/// A write of the longest content, and eight reads of it: more than the system keeps for a peer that
-/// reads nothing.
+/// A write of the longest content, and eight reads of it: more than the system keeps for a peer
+/// that reads nothing.
 fn many_asks(alloc: Global) -> Result<Vec<u8>, Fail> {
     let head = "PUT /large HTTP/1.1\r\nContent-Length: 4194304\r\n\r\n";
     let mut sent = joined(alloc, &[head])?;
@@ -147,7 +147,10 @@ fn a_lack_of_descriptors_is_waited_out(rt: HostRuntime) -> Result<(), Fail> {
             || hear_later(&rt, alloc, taken, peer),
         );
         served.ok_or("no memory")?;
-        assert!(rt; heard.ok_or("no answer")?.as_slice() == DONE.as_bytes(), "{left}");
+        assert!(rt;
+            heard.ok_or("no answer")?.as_slice() == DONE.as_bytes(),
+            "{left}"
+        );
     }
     Ok(())
 }
