@@ -6,11 +6,14 @@ usage: bench/refused_alloc.py [PROGRAM]
 PROGRAM is the built program; without it ./asp_state builds it, and its own is taken. A run must end with a status, 6 or the
 good one, never by a signal; what it wrote must be what the good run wrote, or a front of it, up to the first answer that says
 that memory was wanting; a load that ends with 0 counts each request. It prints for each command how many allocations a run has and how each ended, and ends with status 1
-where one ended otherwise. `serve` and `visit` are run over sockets of this machine. It needs `cc`. Outside the gate.
+where one ended otherwise. `pipe`, `trace` and `drive` are also run over a database file: a new one, and one with rows of earlier
+versions, which are moved; afterwards the file must be sound, and hold each row that it held. `serve` and `visit` are run over sockets
+of this machine. It needs `cc`. Outside the gate.
 """
 import collections
 import os
 import socket
+import sqlite3
 import subprocess
 import sys
 import tempfile
@@ -30,6 +33,15 @@ REQUESTS = (
 )
 # What an answer for want of memory looks like, by command: from there on a run may differ from the good one.
 WANT = {"pipe": b"HTTP/1.1 503", "trace": b": no-memory", "drive": b": no-memory"}
+
+# As earlier versions made it, whose items had no end of their own.
+OLD_TABLE = (
+    "CREATE TABLE IF NOT EXISTS items (key BLOB PRIMARY KEY, body BLOB NOT NULL, minutes INTEGER NOT NULL, fresh INTEGER NOT NULL, "
+    "cookie INTEGER NOT NULL, since INTEGER NOT NULL, touched INTEGER NOT NULL, expiry INTEGER NOT NULL)"
+)
+OLD_INDEX = "CREATE INDEX IF NOT EXISTS items_by_expiry ON items (expiry, key)"
+OLD_ROW = "INSERT INTO items VALUES (?1, ?2, 20, 0, 0, 0, 0, 1200000)"
+OLD_KEYS = {b"/old1", b"/old2", b"/old3"}
 
 
 def program():
@@ -81,23 +93,94 @@ def counts_all(written, good):
     return sum(int(line[1]) for line in lines[1:-1]) == int(lines[0][1])
 
 
-def tried(refuser, name, words, text):
+class Database:
+    """A database file that begins anew before each run."""
+
+    def __init__(self, folder, keys):
+        self.path = os.path.join(folder, "sessions.db")
+        self.keys = keys
+        self.began = b""
+        if keys:
+            self.began = self.old_file()
+
+    def old_file(self):
+        """The bytes of a file of earlier versions that has the keys."""
+        self.remove()
+        connection = sqlite3.connect(self.path)
+        connection.execute(OLD_TABLE)
+        connection.execute(OLD_INDEX)
+        connection.executemany(OLD_ROW, [(key, b"content") for key in sorted(self.keys)])
+        connection.commit()
+        connection.close()
+        with open(self.path, "rb") as file:
+            return file.read()
+
+    def remove(self):
+        for end in ["", "-wal", "-shm"]:
+            if os.path.exists(self.path + end):
+                os.remove(self.path + end)
+
+    def begin(self):
+        self.remove()
+        if self.began:
+            with open(self.path, "wb") as file:
+                file.write(self.began)
+
+    def keeps_all(self):
+        """Whether the file is sound, and each key that it began with has a row."""
+        if not self.began:
+            return True
+        connection = sqlite3.connect(self.path)
+        sound = connection.execute("PRAGMA integrity_check").fetchall() == [("ok",)]
+        tables = {name for (name,) in connection.execute("SELECT name FROM sqlite_master WHERE type = 'table'")}
+        keys = {key for table in tables for (key,) in connection.execute(f"SELECT key FROM {table}")}
+        connection.close()
+        return sound and self.keys <= keys
+
+
+class NoDatabase:
+    """A run without a file."""
+
+    def begin(self):
+        pass
+
+    def keeps_all(self):
+        return True
+
+
+def tried(refuser, name, words, text, database=NoDatabase()):
     """Refuses each allocation of one command in turn."""
+    database.begin()
     status, good = refuser.run(words, text, 0)
     count = refuser.made()
     ends = collections.Counter()
     wrong = []
     for number in range(1, count + 1):
+        database.begin()
         got, written = refuser.run(words, text, number)
         ends[got] += 1
         if name == "load" and got == 0:
             fine = counts_all(written, good)
         else:
-            fine = is_front(written, good, WANT.get(name))
-        if got not in (status, 6) or not fine:
+            fine = is_front(written, good, WANT.get(words[0]))
+        if got not in (status, 6) or not fine or not database.keeps_all():
             wrong.append((number, got, written[-60:]))
     said = ", ".join(f"{ends[k]} with {k}" for k in sorted(ends))
     print(f"{name}: status {status}, {count} allocations; refused in turn, the runs ended {said}")
+    return wrong
+
+
+def tried_over_files(refuser, folder, script):
+    """Refuses each allocation of the commands over a database file in turn: over a new file, and over one of earlier versions."""
+    wrong = []
+    for kind, keys in [("a new file", set()), ("an old file", OLD_KEYS)]:
+        database = Database(folder, keys)
+        for words, text in [
+            (["pipe", "0", "1000", "1"], REQUESTS),
+            (["trace", "0", "1000", "1"], REQUESTS),
+            (["drive"], script),
+        ]:
+            wrong += tried(refuser, f"{words[0]} over {kind}", [*words, database.path], text, database)
     return wrong
 
 
@@ -187,6 +270,7 @@ def main():
         wrong += tried(refuser, "replay", ["replay"], journal)
         wrong += tried(refuser, "drive", ["drive"], script)
         wrong += tried(refuser, "load", ["load", "10", "1"], b"")
+        wrong += tried_over_files(refuser, folder, script)
         wrong += tried_over_sockets(refuser, "serve", served, {0, 6, 9})
         wrong += tried_over_sockets(refuser, "visit", visited, {0, 6, 13})
     for number, status, written in wrong:

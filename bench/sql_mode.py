@@ -13,6 +13,7 @@ import sqlite3
 import subprocess
 import sys
 import tempfile
+import time
 
 TOP = os.path.dirname(os.path.dirname(os.path.abspath(__file__)))
 PROGRAM = os.path.abspath(sys.argv[1]) if len(sys.argv) > 1 else os.path.join(TOP, "asp_state")
@@ -166,6 +167,31 @@ def rows_of_items_are_moved(folder):
     return read == (0, found(b"y")) and left == "0" and ends == "2F61|7|9223372036854775807\n2F62|0|9223372036854775807"
 
 
+def killed_move_loses_no_row(folder):
+    """A run is killed amid the move of 3,000 rows, again and again: each row is in one of the tables, and a last run has them all."""
+    path = os.path.join(folder, "moving.db")
+    connection = sqlite3.connect(path)
+    connection.executescript(ITEMS)
+    rows = ((b"/k%d" % k, b"v%d" % k) for k in range(3_000))
+    connection.executemany("INSERT INTO items VALUES (?1, ?2, 20, 0, 0, 0, 0, 1200000)", rows)
+    connection.commit()
+    connection.close()
+    good, seen = True, []
+    for pause in [0.05, 0.1, 0.2, 0.3, 0.5, 0.7]:
+        child = subprocess.Popen([PROGRAM, *WORDS, path], stdin=subprocess.PIPE, stdout=subprocess.DEVNULL)
+        time.sleep(pause)
+        child.send_signal(signal.SIGKILL)
+        child.wait()
+        there = statement(path, "SELECT count(*) FROM (SELECT key FROM items UNION SELECT key FROM items2)")
+        good = good and there == "3000"
+        seen.append(statement(path, "SELECT count(*) FROM items2"))
+    keys = range(1_000, 2_000)
+    status, text = run(path, b"".join(get(b"k%d" % k) for k in keys))
+    print("  rows moved when the runs were killed: %s" % ", ".join(seen))
+    counts = statement(path, "SELECT count(*) FROM items"), statement(path, "SELECT count(*) FROM items2")
+    return good and counts == ("0", "3000") and status == 0 and text == b"".join(found(b"v%d" % k) for k in keys)
+
+
 def row_that_is_no_item_refuses_the_file(folder):
     """A row of the table without ends that is no item stays there, and the file is refused."""
     path = os.path.join(folder, "no-item.db")
@@ -219,6 +245,7 @@ CASES = [
     garbage_is_refused,
     other_table_is_refused,
     rows_of_items_are_moved,
+    killed_move_loses_no_row,
     row_that_is_no_item_refuses_the_file,
     file_that_may_not_be_written_is_refused,
     full_disk_loses_no_reply,

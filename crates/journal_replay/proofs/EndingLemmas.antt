@@ -42,8 +42,7 @@ judged_of : (bytes : List ℕ) (checker : Checked) (judgement : Judgement) (take
 judged_of bytes checker judgement None journal checks judges = absurd journal
 judged_of bytes checker judgement (Some t) journal checks judges =
     let judged : Judges t.0 t.1 t.2 judgement = subst (λ v. Judges v t.1 t.2 judgement) checks.0
-    (subst (λ p. Judges checker.known.profile p t.2 judgement) checks.1 (judges t.2 checks.2)) in
-    (
+    (subst (λ p. Judges checker.known.profile p t.2 judgement) checks.1 (judges t.2 checks.2)) in (
       record {
         profile = t.0;
         place = t.1;

@@ -138,5 +138,6 @@ judgement_status (Illegal place why) = 8
 -- the status is that of the list's judgement, or memory was wanting
 abbrev pub IsStatusOf : ℕ → Profile → ℕ → List Entry → Type 0
 IsStatusOf status profile place list =
-    ((judgement : Judgement) × Judges profile place list judgement × (status ≡ judgement_status judgement))
+    ((judgement : Judgement) × Judges profile place list judgement
+    × (status ≡ judgement_status judgement))
     ⊎ (status ≡ 6)

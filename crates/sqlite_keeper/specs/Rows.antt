@@ -1,5 +1,5 @@
--- The rows of the table `items`: what each column of a key and of an item is.
-use Rattle.std.specs.Prelude.{◌≡◌, ℕ, ◌<◌, ◌≤◌, ◌^◌, List, pos, Option, Some, None, Bool, true, false, IfSome}
+-- The rows of the tables `items2` and `items`: what each column of a key and of an item is.
+use Rattle.std.specs.Prelude.{◌≡◌, ℕ, ◌<◌, ◌≤◌, ◌-◌, ◌^◌, List, [], ◌∷◌, pos, Option, Some, None, Bool, true, false, IfSome}
 use Rattle.sqlite_value.specs.declared.value.Value.{Value}
 use Rattle.sqlite_value.specs.declared.value.Value.TheVariants.{Int, Blob}
 use Rattle.sqlite_value.specs.Order.{column}
@@ -27,34 +27,57 @@ flag_number true = 1
 abbrev pub IsNumberAt : List Value → ℕ → ℕ → Type 0
 IsNumberAt row at n = column row at ≡ Int (pos n)
 
--- The numbers of a lock are in range, and its cookie is not 0.
-pub record HoldFits (hold : Hold) : Type 0 where
-  pub some : 0 < hold.cookie
-  pub cookie : hold.cookie < 2 ^ 63
-  pub since : hold.since ≤ 2 ^ 62
+-- the cookie of a lock, where there is one, is in range
+abbrev pub CookieFits : Option Hold → Type 0
+CookieFits lock = IfSome lock (λ hold. (0 < hold.cookie) × (hold.cookie < 2 ^ 63))
 
--- these two numbers say this lock, or that there is none
-abbrev pub SaysLock : ℕ → ℕ → Option Hold → Type 0
-SaysLock cookie since lock =
-    IfSome lock HoldFits × (cookie ≡ cookie_of lock) × (since ≡ since_of lock)
+-- the moment of a lock's acquisition, where there is a lock, is in range
+abbrev pub SinceFits : Option Hold → Type 0
+SinceFits lock = IfSome lock (λ hold. hold.since ≤ 2 ^ 62)
 
--- A row says an item: the item is in range, and the columns `body`, `minutes`, `fresh`, `cookie`,
--- `since`, `touched` and `expiry` are its.
-pub record SaysItem (row : List Value) (item : Item) : Type 0 where
+-- These two numbers say this lock, which is in range, or that there is none.
+pub record SaysLock (cookie since : ℕ) (lock : Option Hold) : Type 0 where
+  pub cookie_fits : CookieFits lock
+  pub since_fits : SinceFits lock
+  pub cookie_is : cookie ≡ cookie_of lock
+  pub since_is : since ≡ since_of lock
+
+-- A row begins with an item in range: its columns `body`, `minutes`, `fresh`, `cookie`, `since` and
+-- `touched` are the item's.
+pub record BeginsWith (row : List Value) (item : Item) : Type 0 where
   pub fits : ItemFits item
-  pub lock : IfSome item.holder HoldFits
   pub body : column row 0 ≡ Blob item.body
   pub minutes : IsNumberAt row 1 item.minutes
   pub fresh : IsNumberAt row 2 (flag_number item.fresh)
   pub cookie : IsNumberAt row 3 (cookie_of item.holder)
   pub since : IsNumberAt row 4 (since_of item.holder)
   pub touched : IsNumberAt row 5 item.touched
+
+-- A row of `items2` says an item: it begins with it, and its columns `ends` and `expiry` are the
+-- item's.
+pub record SaysItem (row : List Value) (item : Item) : Type 0 where
+  pub begins : BeginsWith row item
+  pub ends : IsNumberAt row 6 item.ends
+  pub expiry : IsNumberAt row 7 (expiry item)
+
+-- A row of `items` says an item: it begins with it, its column `expiry` is the item's, and the item
+-- has no end before the last moment of all.
+pub record SaysOldItem (row : List Value) (item : Item) : Type 0 where
+  pub begins : BeginsWith row item
+  pub ends : item.ends ≡ 2 ^ 63 - 1
   pub expiry : IsNumberAt row 6 (expiry item)
 
--- a row says a key: the key is in range, and the column `key` is it
-abbrev pub SaysKey : List Value → List ℕ → Type 0
-SaysKey row key = KeyFits key × (column row 0 ≡ Blob key)
+-- a row says a key: the key is in range, and the column at this place is it
+abbrev pub SaysKey : List Value → ℕ → List ℕ → Type 0
+SaysKey row at key = KeyFits key × (column row at ≡ Blob key)
 
 -- no value is such
 abbrev pub HasNone : {T : Type 0} → (T → Type 0) → Type 0
 HasNone {T} P = (value : T) → P value → ⊥
+
+-- what a row of `items2` holds of a key and its item
+abbrev pub columns_of : List ℕ → Item → List Value
+columns_of key item =
+    Blob key ∷ Blob item.body ∷ Int (pos item.minutes) ∷ Int (pos (flag_number item.fresh))
+    ∷ Int (pos (cookie_of item.holder)) ∷ Int (pos (since_of item.holder))
+    ∷ Int (pos item.touched) ∷ Int (pos item.ends) ∷ Int (pos (expiry item)) ∷ []

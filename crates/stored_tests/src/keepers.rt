@@ -4,7 +4,7 @@ ghost use Rattle.std.specs.Prelude.{IfOk};
 ghost use Rattle.asp_messages.specs.Ranges.{KeyFits};
 
 use asp_base::{Bytes, NoMemory};
-use sqlite::{Connection, MemStore};
+use sqlite::{Alter, Connection, MemStore};
 use sqlite_keeper::SqliteKeeper;
 use std::alloc::Global;
 use std::test::Fail;
@@ -19,4 +19,15 @@ pub(crate) fn key(alloc: Global, letter: u8) -> Result<Bytes, NoMemory>
 /// A keeper over an empty database in memory.
 pub(crate) fn in_memory(alloc: Global) -> Result<SqliteKeeper<MemStore>, Fail> {
     Ok(SqliteKeeper::over(alloc, Connection::open_in_memory(alloc)?)?)
+}
+
+/// Runs a statement that has no parameters.
+pub(crate) fn run<S: Alter>(connection: &mut Connection<S>, text: &str) -> Result<(), Fail> {
+    connection.execute(text, &[])?;
+    Ok(())
+}
+
+/// The one number of a query.
+pub(crate) fn number<S: Alter>(connection: &mut Connection<S>, text: &str) -> Result<i64, Fail> {
+    Ok(connection.query_row(text, &[])?.get(0)?)
 }

@@ -7,8 +7,14 @@ mod damaged;
 #[cfg(test)]
 mod keepers;
 #[cfg(test)]
+mod moves;
+#[cfg(test)]
+mod old_file;
+#[cfg(test)]
 mod runs;
 #[cfg(test)]
 mod shards;
+#[cfg(test)]
+mod stops;
 #[cfg(test)]
 mod walks;

@@ -3,7 +3,7 @@ ghost use Rattle.std.specs.Prelude.{◌≡◌, ◌<◌, ◌≤◌, ◌^◌, IfOk
 ghost use Rattle.asp_messages.specs.Ranges.{AskFits, MinutesFit, RequestFits};
 ghost use Rattle.session_machine.specs.History.{DrawFits};
 
-use crate::keepers::{in_memory, key};
+use crate::keepers::{in_memory, key, run};
 use asp_base::{Bytes, NoMemory};
 use asp_messages::{Ask, Reply, Request};
 use shard_core::{Shard, Swept};
@@ -91,7 +91,14 @@ fn cookie_removes_only_while_its_lock_is_held(rt: HostRuntime) -> Result<(), Fai
         4000,
         0,
     );
-    assert_eq!(rt; reply, Reply::Locked { cookie: 0, age: 0, since: None });
+    assert_eq!(rt;
+        reply,
+        Reply::Locked {
+            cookie: 0,
+            age: 0,
+            since: None
+        }
+    );
     let reply = act(&mut shard, asks(alloc, Ask::Read)?, 5000, 0);
     assert_eq!(rt; reply, found(alloc, b'y', None)?);
     assert_eq!(rt; shard.faults(), 0);
@@ -124,5 +131,37 @@ fn items_of_one_moment_are_removed_by_their_keys(rt: HostRuntime) -> Result<(), 
     assert_eq!(rt; sweep_one(&mut shard, 60_000), removed(alloc, b'a')?);
     assert_eq!(rt; sweep_one(&mut shard, 60_000), removed(alloc, b'b')?);
     assert_eq!(rt; sweep_one(&mut shard, 60_000), Swept::Nothing);
+    Ok(())
+}
+
+#[test]
+fn item_ends_a_day_after_it_was_made(rt: HostRuntime) -> Result<(), Fail> {
+    let alloc = rt.alloc();
+    let mut shard = in_shard(alloc)?;
+    let reply = act(&mut shard, write(alloc, b'a', b'x', 525_600)?, 0, 0);
+    assert_eq!(rt; reply, Reply::Done);
+    assert_eq!(rt; sweep_one(&mut shard, 86_399_999), Swept::Nothing);
+    assert_eq!(rt; sweep_one(&mut shard, 86_400_000), removed(alloc, b'a')?);
+    Ok(())
+}
+
+#[test]
+fn old_item_outlives_the_day(rt: HostRuntime) -> Result<(), Fail> {
+    let alloc = rt.alloc();
+    let mut connection = in_memory(alloc)?.into_connection();
+    run(
+        &mut connection,
+        "INSERT INTO items VALUES (x'2f61', x'78', 525600, 0, 0, 0, 0, 31536000000)",
+    )?;
+    let mut shard = Shard::new(alloc, SqliteKeeper::over(alloc, connection)?);
+    let reply = act(&mut shard, asks(alloc, Ask::Read)?, 86_400_000, 0);
+    let found = Reply::Found {
+        body: Bytes::copy(alloc, b"x")?,
+        minutes: 525_600,
+        cookie: None,
+        first: false,
+    };
+    assert_eq!(rt; reply, found);
+    assert_eq!(rt; shard.faults(), 0);
     Ok(())
 }

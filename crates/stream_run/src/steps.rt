@@ -61,6 +61,7 @@ pub fn close<C: Consumer, T: Sink>(consumer: &mut C, sink: &mut T, text: &mut Te
         result start (T.taken sink.new)) }
     ensures read { result ≡ End.ReadFault → ⊥ }
     ensures write { result ≡ End.WriteFault → Rose (T.faults sink.old) (T.faults sink.new) }
+    ensures faults { T.faults sink.old ≤ T.faults sink.new }
 {
     match consumer.finish() {
         Ok(over) => match write_given(consumer, sink, text) {

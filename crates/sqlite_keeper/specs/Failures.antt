@@ -1,0 +1,33 @@
+-- What a keeper answers where the database refuses, or a row says nothing that it can use.
+use Rattle.std.specs.Prelude.{◌≡◌, Option, Some, None, Result, Ok, Err, IfErr}
+use Rattle.keeper.specs.declared.errors.KeepError.{KeepError}
+use Rattle.keeper.specs.declared.errors.KeepError.TheVariants.{Fault, NoMemory}
+use Rattle.sqlite.specs.declared.error.Error.{Error}
+use Rattle.sqlite.specs.declared.error.Error.TheVariants.{SqliteFailure, QueryReturnedNoRows}
+use Rattle.sqlite.specs.declared.error.ErrorCode.TheVariants.{OutOfMemory}
+use Rattle.sqlite_keeper.specs.declared.failure.Failure.{Failure}
+use Rattle.sqlite_keeper.specs.declared.failure.Failure.TheVariants.{Database, BadRow}
+
+-- want of memory where the database says so, and else a fault
+abbrev pub error_of : Failure → KeepError
+error_of (Database (SqliteFailure OutOfMemory)) = NoMemory
+error_of _ = Fault
+
+-- the keeper's answer to what a call gave
+abbrev pub answer_of : {T : Type 0} → Result T Failure → Result T KeepError
+answer_of (Ok value) = Ok value
+answer_of (Err failure) = Err (error_of failure)
+
+-- the failure is no want of memory
+abbrev pub IsFault : Failure → Type 0
+IsFault failure = error_of failure ≡ Fault
+
+-- a call fails only because of what a row says
+abbrev pub FailsByRow : {T : Type 0} → Result T Failure → Type 0
+FailsByRow result = IfErr result (λ failure. failure ≡ BadRow)
+
+-- a query's one row, `None` where it has none
+abbrev pub found_of : {R : Type 0} → Result R Error → Result (Option R) Error
+found_of (Ok row) = Ok (Some row)
+found_of (Err QueryReturnedNoRows) = Ok None
+found_of (Err error) = Err error
