@@ -2,14 +2,21 @@
 _asp_state() {
     local word=${COMP_WORDS[COMP_CWORD]}
     local command=${COMP_WORDS[1]}
+    local commands='serve visit pipe trace replay drive load id'
     if [ "$COMP_CWORD" -eq 1 ]; then
-        mapfile -t COMPREPLY < <(compgen -W 'serve visit pipe trace replay drive load id --help --version' -- "$word")
+        mapfile -t COMPREPLY < <(compgen -W "$commands --help --version" -- "$word")
         return
     fi
     case $command:$COMP_CWORD in
-        pipe:5 | trace:5 | drive:2) mapfile -t COMPREPLY < <(compgen -f -- "$word") ;;
+        pipe:5 | trace:5 | drive:2)
+            # Names with spaces are quoted, and a folder gets its slash.
+            compopt -o filenames
+            mapfile -t COMPREPLY < <(compgen -f -- "$word")
+            ;;
         visit:4) mapfile -t COMPREPLY < <(compgen -W 'exclusive readonly off' -- "$word") ;;
         visit:5) mapfile -t COMPREPLY < <(compgen -W 'save keep abandon' -- "$word") ;;
+        --help:2) mapfile -t COMPREPLY < <(compgen -W "$commands" -- "$word") ;;
+        *:2) mapfile -t COMPREPLY < <(compgen -W '--help' -- "$word") ;;
         *) COMPREPLY=() ;;
     esac
 }

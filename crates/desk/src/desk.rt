@@ -5,6 +5,7 @@ ghost use Rattle.session_machine.specs.declared.entry.Entry.{Entry};
 ghost use Rattle.session_machine.specs.declared.item.Item.{Item};
 ghost use Rattle.session_machine.specs.History.{DrawFits, HasPlace};
 ghost use Rattle.cookie_source.specs.Counting.{Counter};
+ghost use Rattle.shard_core.specs.Acting.{IsOutOfCookies};
 ghost use Rattle.shard_core.specs.Standing.{CountsFault, NoFewerFaults, asked_entry};
 ghost use Rattle.shard_core.specs.Sweeping.{HasDue, swept_entry};
 ghost use Rattle.desk.specs.Draws.{CookiesFit, DrawsNext, draw_of, draws_in};
@@ -94,6 +95,10 @@ impl<K: Keeper> Desk<K> {
             (K.count self.new.keeper) ∷ []) self.new }
 
         ensures last { self.new.cookies.last ≡ self.old.cookies.last }
+        ensures out { IsOutOfCookies request.ask result.drawn
+            → (result.reply ≡ Reply.CookiesOut) × (self.new.keeper ≡ self.old.keeper) }
+        ensures cookies_out { result.reply ≡ Reply.CookiesOut
+            → IsOutOfCookies request.ask result.drawn }
         ensures fault { result.reply ≡ Reply.KeeperFault
             → CountsFault ⟦<K as Keeper>⟧ self.old.keeper self.new.keeper }
         ensures count { NoFewerFaults ⟦<K as Keeper>⟧ self.old.keeper self.new.keeper }

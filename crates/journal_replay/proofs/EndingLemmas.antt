@@ -42,8 +42,7 @@ judged_of : (bytes : List ℕ) (checker : Checked) (judgement : Judgement) (take
 judged_of bytes checker judgement None journal checks judges = absurd journal
 judged_of bytes checker judgement (Some t) journal checks judges =
     let judged : Judges t.0 t.1 t.2 judgement = subst (λ v. Judges v t.1 t.2 judgement) checks.0
-    (subst (λ p. Judges checker.known.profile p t.2 judgement) checks.1 (judges t.2 checks.2)) in
-    (
+    (subst (λ p. Judges checker.known.profile p t.2 judgement) checks.1 (judges t.2 checks.2)) in (
       record {
         profile = t.0;
         place = t.1;
@@ -231,16 +230,20 @@ module _ (most : ℕ) (first now : Replayer) (f : Flow) where
   pub judged-complete : (told : Option (List ℕ × List ℕ)) (end : End)
       → IfFewer told most (IsComplete ghosts first now f end)
       → (profile : Profile) (place : ℕ) (list : List Entry)
-      → TellsJournal told most profile place list → IsStatusOf (status_number end) profile place list
+      → TellsJournal told most profile place list → IsStatusOf (status_number end) profile place
+      list
   judged-complete None end complete profile place list tells = absurd tells
   judged-complete (Some told) (ends.Over verdict) complete profile place list tells =
       let (whole, last, over, wrote) = complete tells.0 in
       let found = found_of first now told.1 verdict whole last over in
       status_judged told.1 verdict found.0 found.1 profile place list tells.1
   judged-complete (Some told) ends.NoMemory complete profile place list tells = inr refl
-  judged-complete (Some told) ends.ReadFault complete profile place list tells = absurd (complete tells.0)
-  judged-complete (Some told) ends.WriteFault complete profile place list tells = absurd (complete tells.0)
-  judged-complete (Some told) ends.Long complete profile place list tells = absurd (complete tells.0)
+  judged-complete (Some told) ends.ReadFault complete profile place list tells =
+      absurd (complete tells.0)
+  judged-complete (Some told) ends.WriteFault complete profile place list tells =
+      absurd (complete tells.0)
+  judged-complete (Some told) ends.Long complete profile place list tells =
+      absurd (complete tells.0)
 
   pub refused-complete : (told : Option (List ℕ × List ℕ)) (end : End)
       → IfFewer told most (IsComplete ghosts first now f end)

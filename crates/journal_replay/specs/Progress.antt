@@ -13,8 +13,8 @@ use Rattle.journal_replay.specs.declared.verdict.Verdict.TheVariants as verdicts
 use Rattle.journal_replay.specs.declared.replayer.Replayer.{Replayer}
 use Rattle.journal_replay.specs.Replay.{IsJudged, stop_line}
 
--- the checker has taken the entries that were taken of a text, the first of them at its place, in the
--- text's profile
+-- the checker has taken the entries that were taken of a text, the first of them at its place, in
+-- the text's profile
 abbrev pub Checks : Taken → Checked → Type 0
 Checks None checker = ⊤
 Checks (Some t) checker = (checker.known.profile ≡ t.0) × (checker.first ≡ t.1)

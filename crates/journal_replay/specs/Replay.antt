@@ -32,8 +32,8 @@ abbrev pub GivesLocks : Profile → Judgement → List Entry → Type 0
 GivesLocks profile (Legal entries) list = LocksHoldIn profile nothing 0 list
 GivesLocks profile (Illegal place why) list = ⊤
 
--- The bytes are the journal of a profile of a list of entries, and this is the judgement of the list
--- in that profile.
+-- The bytes are the journal of a profile of a list of entries, and this is the judgement of the
+-- list in that profile.
 pub record IsJudged (bytes : List ℕ) (judgement : Judgement) : Type 0 where
   pub profile : Profile
   pub place : ℕ
@@ -138,5 +138,6 @@ judgement_status (Illegal place why) = 8
 -- the status is that of the list's judgement, or memory was wanting
 abbrev pub IsStatusOf : ℕ → Profile → ℕ → List Entry → Type 0
 IsStatusOf status profile place list =
-    ((judgement : Judgement) × Judges profile place list judgement × (status ≡ judgement_status judgement))
+    ((judgement : Judgement) × Judges profile place list judgement
+    × (status ≡ judgement_status judgement))
     ⊎ (status ≡ 6)

@@ -28,6 +28,8 @@ pub fn run_replay<S: Source, T: Sink>(alloc: Global, most: u64, source: &mut S, 
         (T.taken sink.old) (T.taken sink.new) end }
     ensures read { result ≡ 4 → Rose (S.faults source.old) (S.faults source.new) }
     ensures write { result ≡ 5 → Rose (T.faults sink.old) (T.faults sink.new) }
+    ensures source_count { S.faults source.old ≤ S.faults source.new }
+    ensures sink_count { T.faults sink.old ≤ T.faults sink.new }
 
     // Where the input is a journal and neither source nor sink fails, it is judged, if memory is
     // there.

@@ -218,6 +218,14 @@ impl JournalReader {
         }
     }
 
+    /// The profile of the first line, which says how the lines behind it are spelled; `None` until
+    /// that line was taken.
+    pub fn profile(&self) -> Option<Profile>
+        ensures { result ≡ self.now.begun }
+    {
+        self.begun
+    }
+
     /// Where a text that ends here is no journal: `None` exactly where it is one. Else the offset
     /// of the line at which the reader is broken, or of a last line without its line feed, or 0 for
     /// the empty text. The caller has heard `More` or `NotAJournal` since the last piece.

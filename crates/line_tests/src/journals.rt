@@ -3,7 +3,7 @@ use crate::reading::read_again;
 use asp_base::Bytes;
 use asp_messages::Reply;
 use journal_text::{JournalNext, JournalReader, MOST_PIECE, write_entry, write_head};
-use session_machine::{Deed, Entry};
+use session_machine::{Deed, Entry, Profile};
 use std::alloc::Global;
 use std::test::Fail;
 
@@ -40,6 +40,16 @@ const KINDS: &[&str] = &[
     "0 0 0 0 - looked : keeper-fault\n",
 ];
 
+/// Journals of profiles 2 and 3, which alone tells when a lock was acquired, or that it isn't told.
+const LATER_KINDS: &[&str] = &[
+    "asp-journal 2 0\n0 0 0 0 x61 read : locked 1 1\n0 0 0 0 x61 read : found 0 1 1 x\n",
+    "asp-journal 3 9223372036854775806\n\
+        0 0 0 9223372036854775807 x00ff acquire : \
+        locked 9223372036854775807 0 4611686018427387904\n\
+        0 0 0 0 x61 read : locked 1 4611686018427387904 0\n\
+        0 0 0 0 x61 release 0 : locked 0 0 -\n0 0 0 0 x61 read : found 1 20 0 x78\n",
+];
+
 #[test]
 fn each_kind_of_line_is_read_and_written(rt: HostRuntime) -> Result<(), Fail> {
     let mut text = Vec::new(rt.alloc());
@@ -47,6 +57,9 @@ fn each_kind_of_line_is_read_and_written(rt: HostRuntime) -> Result<(), Fail> {
         text.extend_from_slice(line.as_bytes())?;
     }
     assert!(rt; is_written_again(rt.alloc(), text.as_slice(), MOST_PIECE));
+    for text in LATER_KINDS {
+        assert!(rt; is_written_again(rt.alloc(), text.as_bytes(), 1), "{text}");
+    }
     Ok(())
 }
 
@@ -69,7 +82,10 @@ const NO_HEADS: &[&str] = &[
     "asp-journal 1 0",
     "asp-journal 1 00\n",
     "asp-journal 1 9223372036854775807\n",
-    "asp-journal 2 0\n",
+    "asp-journal 0 0\n",
+    "asp-journal 4 0\n",
+    "asp-journal 03 0\n",
+    "asp-journal 3\n",
     "asp-journal 1  0\n",
     "asp-journal 1 0 \n",
     "0 0 0 0 x61 read : missing\n",
@@ -82,12 +98,17 @@ fn a_text_stops_at_a_first_line_that_is_none(rt: HostRuntime) {
     }
 }
 
-/// Whether the text stops there behind the first line `asp-journal 1 0`, of 16 bytes.
-fn stops_behind_head(alloc: Global, entries: &str, offset: u64) -> bool {
-    let Ok(mut text) = Vec::from_slice(alloc, b"asp-journal 1 0\n") else {
+/// Whether the text stops there behind the first line, of 16 bytes.
+fn stops_behind(alloc: Global, head: &str, entries: &str, offset: u64) -> bool {
+    let Ok(mut text) = Vec::from_slice(alloc, head.as_bytes()) else {
         return false;
     };
     text.extend_from_slice(entries.as_bytes()).is_ok() && stops(alloc, text.as_slice(), offset)
+}
+
+/// Whether the text stops there behind the first line `asp-journal 1 0`.
+fn stops_behind_head(alloc: Global, entries: &str, offset: u64) -> bool {
+    stops_behind(alloc, "asp-journal 1 0\n", entries, offset)
 }
 
 /// What is no line of an entry: its words, its spaces and its end.
@@ -144,6 +165,37 @@ fn a_text_stops_at_what_cannot_have_been_done(rt: HostRuntime) {
     }
 }
 
+/// Locks that are told with the moment of their acquisition, or say that it isn't told.
+const DATED: &[&str] = &[
+    "0 0 0 0 x61 read : locked 1 1 1000\n",
+    "0 0 0 0 x61 read : locked 1 1 -\n",
+];
+
+/// Locks that are told otherwise than profile 3 tells them.
+const NOT_DATED: &[&str] = &[
+    "0 0 0 0 x61 read : locked 1 1\n",
+    "0 0 0 0 x61 read : locked 1 1 \n",
+    "0 0 0 0 x61 read : locked 1 1 01000\n",
+    "0 0 0 0 x61 read : locked 1 1 4611686018427387905\n",
+    "0 0 0 0 x61 read : locked 1 1 - -\n",
+];
+
+#[test]
+fn a_moment_of_a_lock_is_told_in_profile_3_alone(rt: HostRuntime) {
+    for entries in DATED {
+        for head in ["asp-journal 1 0\n", "asp-journal 2 0\n"] {
+            assert!(rt;
+                stops_behind(rt.alloc(), head, entries, 16),
+                "{head}{entries}"
+            );
+        }
+    }
+    for entries in NOT_DATED {
+        let head = "asp-journal 3 0\n";
+        assert!(rt; stops_behind(rt.alloc(), head, entries, 16), "{entries}");
+    }
+}
+
 #[test]
 fn a_text_stops_at_a_last_line_that_is_cut(rt: HostRuntime) {
     assert!(rt; stops_behind_head(rt.alloc(), "0 0 0 0 x61 read : missing\n0", 43));
@@ -152,7 +204,7 @@ fn a_text_stops_at_a_last_line_that_is_cut(rt: HostRuntime) {
 #[test]
 fn an_entry_is_written_in_the_order_of_the_format(rt: HostRuntime) -> Result<(), Fail> {
     let mut out = Vec::new(rt.alloc());
-    write_head(&mut out, 7)?;
+    write_head(&mut out, Profile::Three, 7)?;
     let entry = Entry {
         caller: 1,
         moment: 2,
@@ -161,10 +213,10 @@ fn an_entry_is_written_in_the_order_of_the_format(rt: HostRuntime) -> Result<(),
         reply: Reply::Done,
         faults: 3,
     };
-    write_entry(&mut out, &entry)?;
+    write_entry(&mut out, Profile::Three, &entry)?;
     assert_eq!(rt;
         out.as_slice(),
-        b"asp-journal 1 7\n1 2 3 0 x2f61 expired : done\n".as_slice()
+        b"asp-journal 3 7\n1 2 3 0 x2f61 expired : done\n".as_slice()
     );
     Ok(())
 }
@@ -172,7 +224,10 @@ fn an_entry_is_written_in_the_order_of_the_format(rt: HostRuntime) -> Result<(),
 /// What the reader answers next, by a name.
 fn told(reader: &mut JournalReader) -> &'static str {
     match reader.next() {
-        JournalNext::Head { place: 0 } => "head of place 0",
+        JournalNext::Head {
+            profile: Profile::One,
+            place: 0,
+        } => "head of profile 1 and place 0",
         JournalNext::Entry(_) => "entry",
         JournalNext::More => "more",
         _ => "another",
@@ -184,7 +239,9 @@ fn a_reader_is_asked_line_by_line(rt: HostRuntime) -> Result<(), Fail> {
     let mut reader = JournalReader::new(rt.alloc());
     reader.feed(b"asp-journal 1 0\n0 0 0 0 x61 read : missing\n")?;
     assert_eq!(rt; told(&mut JournalReader::new(rt.alloc())), "more");
-    assert_eq!(rt; told(&mut reader), "head of place 0");
+    assert_eq!(rt; reader.profile(), None);
+    assert_eq!(rt; told(&mut reader), "head of profile 1 and place 0");
+    assert_eq!(rt; reader.profile(), Some(Profile::One));
     assert_eq!(rt; told(&mut reader), "entry");
     Ok(())
 }

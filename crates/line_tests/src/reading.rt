@@ -16,6 +16,7 @@ pub struct Again {
 
 /// Writes again each line that the reader has, at most `most` of them, and answers whether it may
 /// be fed.
+#[tactic(auto, using(crate::proofs::ReadingLemmas::told_by))]
 fn tell(reader: &mut JournalReader, lines: &mut Vec<u8>, most: usize) -> Result<bool, NoMemory>
     ensures may_feed { IfOk result (λ b. IsTrue b → IsTrue reader.new.may_feed) }
     ensures counted { reader.new.offset + length reader.new.held ≤ reader.old.offset
@@ -24,7 +25,10 @@ fn tell(reader: &mut JournalReader, lines: &mut Vec<u8>, most: usize) -> Result<
     'lines: for _ in 0..most {
         match reader.next() {
             JournalNext::Head { profile, place } => write_head(lines, profile, place)?,
-            JournalNext::Entry(entry) => write_entry(lines, &entry)?,
+            JournalNext::Entry(entry) => match reader.profile() {
+                Some(profile) => write_entry(lines, profile, &entry)?,
+                None => return Ok(false),
+            },
             JournalNext::More | JournalNext::NotAJournal { .. } => return Ok(true),
             JournalNext::NoMemory => return Err(NoMemory),
         }

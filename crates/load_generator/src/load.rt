@@ -62,6 +62,7 @@ fn write_counts<T: Sink>(
     ensures writes { WritesCounts result (T.taken sink.old) (T.taken sink.new)
         (counts_text requests counts removed) }
     ensures fault { result ≡ 5 → Rose (T.faults sink.old) (T.faults sink.new) }
+    ensures sink_count { T.faults sink.old ≤ T.faults sink.new }
 {
     let Ok(text) = counts.text(alloc, requests, removed) else {
         return 6;
@@ -83,6 +84,7 @@ pub fn run_load<T: Sink, K: Keeper>(alloc: Global, load: Load, sink: &mut T, kee
     requires empty { IsEmptyTold (K.told keeper) }
     ensures load { RanLoad ⟦<K as Keeper>⟧ load (T.taken sink.old) (T.taken sink.new) result }
     ensures write { result.status ≡ 5 → Rose (T.faults sink.old) (T.faults sink.new) }
+    ensures sink_count { T.faults sink.old ≤ T.faults sink.new }
     ensures floor { K.floor result.keeper ≡ K.floor keeper }
 {
     let mut desk = Desk::new(alloc, keeper, 1, MOST_COOKIE);

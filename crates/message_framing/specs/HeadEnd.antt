@@ -1,7 +1,6 @@
 -- Where a head ends: at its first empty line after its first byte that is neither carriage return
 -- nor line feed. An empty line is a line feed right after a line feed, or after a line feed and a
--- carriage return
--- (RFC 7230, section 3).
+-- carriage return (RFC 7230, section 3).
 use Rattle.std.specs.Prelude.{◌≡◌, ℕ, List, [], ◌∷◌, ◌++◌, Option, Some, None, ◌==◌, ◌||◌, if◌then◌else◌}
 use Rattle.message_framing.specs.declared.head_end.Phase.{Phase}
 use Rattle.message_framing.specs.declared.head_end.Phase.TheVariants.{Blank, Line, Feed, Return}

@@ -1,6 +1,6 @@
 -- What follows one call of a link after another.
-use Rattle.std.proofs.Common.{◌≡◌, ℕ, List, [], ◌++◌, take, Option, None, Some, refl, sym, ap, ◌∙◌, append_assoc, append-nil}
-use Rattle.page_link.specs.Links.{Sends, SendsFront, Receives, Exchanges}
+use Rattle.std.proofs.Common.{◌≡◌, ℕ, zero, suc, ◌-◌, List, [], ◌∷◌, ◌++◌, length, take, Option, None, Some, refl, sym, ap, ◌∙◌, subst, arith, append_assoc, append-nil, length-append}
+use Rattle.page_link.specs.Links.{Sends, SendsFront, Receives, Exchanges, KeepsPauses}
 use Rattle.page_link.specs.Visits.{IsFront}
 
 pub Receives-nil : (a : Option (List ℕ × List ℕ)) → Receives a a []
@@ -47,6 +47,50 @@ Exchanges-of (Some x) (Some y) (Some z) s xs p q = (q.0 ∙ p.0, sym p.1 ∙ q.1
 pub Exchanges-sent : (a b : Option (List ℕ × List ℕ)) (s : List ℕ) → Sends a b s
     → Exchanges a b s []
 Exchanges-sent a b s p = Exchanges-of a b b s [] p (Receives-nil b)
+
+-- ---- pauses
+
+abbrev no_moments : List ℕ
+no_moments = []
+
+take-none : (n : ℕ) → take n no_moments ≡ no_moments
+take-none zero = refl
+take-none (suc n) = refl
+
+pub KeepsPauses-nil : (a : Option (List ℕ × ℕ)) → KeepsPauses a a []
+KeepsPauses-nil None = tt
+KeepsPauses-nil (Some x) =
+    (sym (ap (λ l. x.0 ++ l) (take-none x.1) ∙ append-nil x.0), omega arith)
+
+-- a link that kept its pauses as they were
+pub KeepsPauses-same : (a b : Option (List ℕ × ℕ)) → b ≡ a → KeepsPauses a b []
+KeepsPauses-same a b same = subst (λ l. KeepsPauses a l []) (sym same) (KeepsPauses-nil a)
+
+-- what is kept of two lists, one after the other
+take-both : (n : ℕ) (u v : List ℕ) → take n (u ++ v) ≡ take n u ++ take (n - length u) v
+take-both n [] v =
+    let all : n - length no_moments ≡ n = omega arith in
+    rw (take-none n, all) refl
+take-both zero (x ∷ u) v =
+    let none : 0 - length (x ∷ u) ≡ 0 = omega arith in
+    rw none refl
+take-both (suc n) (x ∷ u) v =
+    let less : suc n - length (x ∷ u) ≡ n - length u = omega arith in
+    rw less (ap (λ l. x ∷ l) (take-both n u v))
+
+pub KeepsPauses-trans : (a b c : Option (List ℕ × ℕ)) (u v : List ℕ) → KeepsPauses a b u
+    → KeepsPauses b c v → KeepsPauses a c (u ++ v)
+KeepsPauses-trans None None None u v p q = tt
+KeepsPauses-trans None None (Some z) u v p q = absurd q
+KeepsPauses-trans None (Some y) c u v p q = absurd p
+KeepsPauses-trans (Some x) None c u v p q = absurd p
+KeepsPauses-trans (Some x) (Some y) None u v p q = absurd q
+KeepsPauses-trans (Some x) (Some y) (Some z) u v p q = (
+  q.0 ∙ ap (λ l. l ++ take y.1 v) p.0 ∙ ap (λ n. (x.0 ++ take x.1 u) ++ take n v) p.1
+      ∙ append_assoc x.0 (take x.1 u) (take (x.1 - length u) v)
+      ∙ ap (λ l. x.0 ++ l) (sym (take-both x.1 u v)),
+  q.1 ∙ omega (arith, p.1, length-append u v),
+)
 
 -- a front of the piece was sent, and nothing received
 pub sent_front : (a b : Option (List ℕ × List ℕ)) (piece text : List ℕ) → piece ≡ text

@@ -21,10 +21,10 @@ use Rattle.visit_core.specs.Terms.{Terms, EndingFits, HeardFits}
 use Rattle.page_link.specs.declared.exchange.Break.TheVariants as breaks
 use Rattle.page_link.specs.declared.visit_end.VisitEnd.TheVariants as ends
 use Rattle.page_link.specs.Exchanges.{IsUnderway, MayTurn, Asks, AsksInVain, kept_ending}
-use Rattle.page_link.specs.Links.{Exchanges}
+use Rattle.page_link.specs.Links.{Exchanges, KeepsPauses}
 use Rattle.page_link.specs.Turns.{Turn, asked, paused, ran, heard_of, events_of, past_of, texts_of, answers_of, has_lost}
 use Rattle.page_link.specs.Visits.{Scene, IsNew, IsVisit, SentOver, loss_of_outcome}
-use Rattle.page_link.proofs.LinkLemmas.{Exchanges-nil}
+use Rattle.page_link.proofs.LinkLemmas.{Exchanges-nil, KeepsPauses-nil, KeepsPauses-same}
 use Rattle.page_link.proofs.RuleLemmas.{has_ended-push, has_lost-append}
 use Rattle.page_link.proofs.VisitLemmas.{goes_on, ends_so, GaveMoments-nil}
 
@@ -83,9 +83,10 @@ may_turn page before now kept held run fits = record {
 -- ---- a turn after which the visit goes on
 
 module _ (page : Ending) (before : Scene) (visit visit' : VisitState)
-    (link link' : Option (List ℕ × List ℕ)) (clock clock' : Option (ℕ → ℕ))
-    (kept kept' : Option Ending) (held held' : List ℕ) (t : ℕ)
-    (run : IsUnderway page before (record { visit = visit; link = link; clock = clock }) kept held)
+    (link link' : Option (List ℕ × List ℕ)) (pauses pauses' : Option (List ℕ × ℕ))
+    (clock clock' : Option (ℕ → ℕ)) (kept kept' : Option Ending) (held held' : List ℕ) (t : ℕ)
+    (run : IsUnderway page before
+    (record { visit = visit; link = link; pauses = pauses; clock = clock }) kept held)
     (moment : GivesMoment clock clock' t)
   where
     nothing_more : Spelled SpellsReply (run.received ++ []) (answers_of run.turns ++ []) held
@@ -103,12 +104,14 @@ module _ (page : Ending) (before : Scene) (visit visit' : VisitState)
         ap (λ (terms : Terms). act_of terms (past_of page run.turns) t) (sym run.terms)
         ∙ sym (acts (past_of page run.turns) run.past)
 
-    pub went-paused : (until : ℕ) → link' ≡ link
+    pub went-paused : (until : ℕ) → link' ≡ link → KeepsPauses pauses pauses' (until ∷ [])
         → ((past : List Event) → HasPast visit past → wait_until until ≡ act_of visit.terms past t)
-        → IsUnderway page before (record { visit = visit; link = link'; clock = clock' }) kept held
-    went-paused until same acts =
-        goes_on page before (record { visit = visit; link = link; clock = clock })
-        (record { visit = visit; link = link'; clock = clock' }) kept kept held held run
+        → IsUnderway page before
+        (record { visit = visit; link = link'; pauses = pauses'; clock = clock' }) kept held
+    went-paused until same keeps acts =
+        goes_on page before (record { visit = visit; link = link; pauses = pauses; clock = clock })
+        (record { visit = visit; link = link'; pauses = pauses'; clock = clock' }) kept kept held held
+        run
         (paused t until) (record {
           terms = refl;
           past = subst (HasPast visit) (sym (append-nil (past_of page run.turns))) run.past;
@@ -116,6 +119,7 @@ module _ (page : Ending) (before : Scene) (visit visit' : VisitState)
           moment = moment;
           received = [];
           exchanged = subst (λ l. Exchanges link l [] []) (sym same) (Exchanges-nil link);
+          pauses = keeps;
           answers = nothing_more;
           steps = λ u. (u, omega arith);
           kept_is = run.kept_is
@@ -131,12 +135,13 @@ module _ (page : Ending) (before : Scene) (visit visit' : VisitState)
         → ((past : List Event) → HasPast visit past → HasPast visit' (past ++ ended ending ∷ []))
         → ((u w : ℕ) → steps_left visit' w < steps_left visit u)
         → ((past : List Event) → HasPast visit past → IsToRun (act_of visit.terms past t))
-        → IsUnderway page before (record { visit = visit'; link = link; clock = clock' }) None
-        held
+        → IsUnderway page before
+        (record { visit = visit'; link = link; pauses = pauses; clock = clock' }) None held
     went-ran ending told terms past steps runs =
         let same = kept-is (has_ended (past_of page run.turns)) page ending (told ∙ run.kept_is) in
-        goes_on page before (record { visit = visit; link = link; clock = clock })
-        (record { visit = visit'; link = link; clock = clock' }) kept None held held run (ran t)
+        goes_on page before (record { visit = visit; link = link; pauses = pauses; clock = clock })
+        (record { visit = visit'; link = link; pauses = pauses; clock = clock' }) kept None held held
+        run (ran t)
         (record {
           terms = terms;
           past = subst (λ e. HasPast visit' (past_of page run.turns ++ ended e ∷ [])) (sym same)
@@ -147,6 +152,7 @@ module _ (page : Ending) (before : Scene) (visit visit' : VisitState)
           moment = moment;
           received = [];
           exchanged = Exchanges-nil link;
+          pauses = KeepsPauses-nil pauses;
           answers = nothing_more;
           steps = λ u. (0, omega (arith, steps 0 u));
           kept_is =
@@ -160,21 +166,23 @@ module _ (page : Ending) (before : Scene) (visit visit' : VisitState)
     or-false false = refl
 
     pub went-asked : (request : Request) (h : Heard)
-        → Asks link link' (request_text request) held held' h → visit'.terms ≡ visit.terms
+        → Asks link link' (request_text request) held held' h → pauses' ≡ pauses
+        → visit'.terms ≡ visit.terms
         → ((past : List Event) → HasPast visit past
         → HasPast visit' (past ++ heard t request h ∷ []))
         → ((w : ℕ) → steps_left visit' w < steps_left visit t)
         → ((past : List Event) → HasPast visit past → send request ≡ act_of visit.terms past t)
-        → IsUnderway page before (record { visit = visit'; link = link'; clock = clock' }) kept
-        held'
-    went-asked request h (received, exchanged, answered) terms past steps acts =
+        → IsUnderway page before
+        (record { visit = visit'; link = link'; pauses = pauses'; clock = clock' }) kept held'
+    went-asked request h (received, exchanged, answered) still terms past steps acts =
         let bytes : List ℕ = run.received ++ received in
         let behind = Spelled-append SpellsReply run.received (answers_of run.turns) held received
         run.answers in
         let parts = subst (λ l. Spelled SpellsReply bytes (answers_of run.turns) l) answered.bytes
         behind in
-        goes_on page before (record { visit = visit; link = link; clock = clock })
-        (record { visit = visit'; link = link'; clock = clock' }) kept kept held held' run
+        goes_on page before (record { visit = visit; link = link; pauses = pauses; clock = clock })
+        (record { visit = visit'; link = link'; pauses = pauses'; clock = clock' }) kept kept held
+        held' run
         (asked t request answered.answer) (record {
           terms = terms;
           past = subst (λ e. HasPast visit' (past_of page run.turns ++ heard t request e ∷ []))
@@ -183,6 +191,7 @@ module _ (page : Ending) (before : Scene) (visit visit' : VisitState)
           moment = moment;
           received = received;
           exchanged = exchanged;
+          pauses = KeepsPauses-same pauses pauses' still;
           answers = Spelled-push SpellsReply bytes (answers_of run.turns) answered.front held'
               answered.answer parts answered.spells;
           steps = λ w. (t, omega (arith, steps w));
@@ -219,9 +228,11 @@ lost-acts terms past t request acts =
     ∙ ap after_loss acts
 
 module _ (page : Ending) (before : Scene) (visit visit' : VisitState)
-    (link link' : Option (List ℕ × List ℕ)) (clock clock' : Option (ℕ → ℕ)) (kept : Option Ending)
-    (held : List ℕ) (t : ℕ)
-    (run : IsUnderway page before (record { visit = visit; link = link; clock = clock }) kept held)
+    (link link' : Option (List ℕ × List ℕ)) (pauses pauses' : Option (List ℕ × ℕ))
+    (clock clock' : Option (ℕ → ℕ)) (kept : Option Ending) (held : List ℕ) (t : ℕ)
+    (run : IsUnderway page before
+    (record { visit = visit; link = link; pauses = pauses; clock = clock }) kept held)
+    (still : pauses' ≡ pauses)
     (moment : GivesMoment clock clock' t)
   where
     -- what the visit does by the terms with which it began
@@ -234,14 +245,14 @@ module _ (page : Ending) (before : Scene) (visit visit' : VisitState)
 
     pub ended-over : (outcome : Outcome) → (outcome ≡ LinkFault → ⊥)
         → ((past : List Event) → HasPast visit past → over outcome ≡ act_of visit.terms past t)
-        → IsVisit page before (record { visit = visit; link = link; clock = clock' })
-        (ends.Over outcome)
+        → IsVisit page before
+        (record { visit = visit; link = link; pauses = pauses'; clock = clock' }) (ends.Over outcome)
     ended-over outcome sound acts =
         let behind : past_of page run.turns ≡ past_of page run.turns ++ loss_of_outcome outcome =
         sym (ap (λ l. past_of page run.turns ++ l) (no_loss-over outcome sound)
         ∙ append-nil (past_of page run.turns)) in
-        ends_so page before (record { visit = visit; link = link; clock = clock })
-        (record { visit = visit; link = link; clock = clock' }) kept held run
+        ends_so page before (record { visit = visit; link = link; pauses = pauses; clock = clock })
+        (record { visit = visit; link = link; pauses = pauses'; clock = clock' }) kept held run
         (ends.Over outcome) (record {
           last = t;
           part = [];
@@ -250,6 +261,7 @@ module _ (page : Ending) (before : Scene) (visit visit' : VisitState)
           past = subst (HasPast visit) behind run.past;
           moment = moment;
           exchanged = Exchanges-nil link;
+          pauses = still;
           bad = λ e. absurd cc;
           sent_as = sent-over outcome _ (texts_of run.turns) (texts_of run.turns ++ []) sound
               (append-nil (texts_of run.turns));
@@ -262,11 +274,11 @@ module _ (page : Ending) (before : Scene) (visit visit' : VisitState)
         → ((past : List Event) → HasPast visit past → send request ≡ act_of visit.terms past t)
         → visit'.terms ≡ visit.terms → ((past : List Event) → HasPast visit past
         → HasPast visit' (past ++ lost ∷ []))
-        → IsVisit page before (record { visit = visit'; link = link'; clock = clock' })
-        (ends.Over LinkFault)
+        → IsVisit page before
+        (record { visit = visit'; link = link'; pauses = pauses'; clock = clock' }) (ends.Over LinkFault)
     ended-lost request (part, received, front, exchanged, none) acts terms past =
-        ends_so page before (record { visit = visit; link = link; clock = clock })
-        (record { visit = visit'; link = link'; clock = clock' }) kept held run
+        ends_so page before (record { visit = visit; link = link; pauses = pauses; clock = clock })
+        (record { visit = visit'; link = link'; pauses = pauses'; clock = clock' }) kept held run
         (ends.Over LinkFault) (record {
           last = t;
           part = part;
@@ -275,6 +287,7 @@ module _ (page : Ending) (before : Scene) (visit visit' : VisitState)
           past = past (past_of page run.turns) run.past;
           moment = moment;
           exchanged = exchanged;
+          pauses = still;
           bad = λ e. absurd cc;
           sent_as = (request, by_terms (send request) acts, (part, front, refl));
           over_is = lost-acts before.visit.terms (past_of page run.turns) t request
@@ -287,10 +300,12 @@ module _ (page : Ending) (before : Scene) (visit visit' : VisitState)
     pub ended-bad : (request : Request)
         → AsksInVain link link' (request_text request) held breaks.BadReply
         → ((past : List Event) → HasPast visit past → send request ≡ act_of visit.terms past t)
-        → IsVisit page before (record { visit = visit; link = link'; clock = clock' }) ends.BadReply
+        → IsVisit page before
+        (record { visit = visit; link = link'; pauses = pauses'; clock = clock' }) ends.BadReply
     ended-bad request (part, received, whole, exchanged, bad) acts =
-        ends_so page before (record { visit = visit; link = link; clock = clock })
-        (record { visit = visit; link = link'; clock = clock' }) kept held run ends.BadReply
+        ends_so page before (record { visit = visit; link = link; pauses = pauses; clock = clock })
+        (record { visit = visit; link = link'; pauses = pauses'; clock = clock' }) kept held run
+        ends.BadReply
         (record {
           last = t;
           part = part;
@@ -299,6 +314,7 @@ module _ (page : Ending) (before : Scene) (visit visit' : VisitState)
           past = as_it_is;
           moment = moment;
           exchanged = exchanged;
+          pauses = still;
           bad = λ e. bad;
           sent_as = (request, by_terms (send request) acts, (part, whole, refl));
           over_is = tt;
@@ -307,10 +323,12 @@ module _ (page : Ending) (before : Scene) (visit visit' : VisitState)
     pub ended-no_memory : (request : Request)
         → AsksInVain link link' (request_text request) held breaks.NoMemory
         → ((past : List Event) → HasPast visit past → send request ≡ act_of visit.terms past t)
-        → IsVisit page before (record { visit = visit; link = link'; clock = clock' }) ends.NoMemory
+        → IsVisit page before
+        (record { visit = visit; link = link'; pauses = pauses'; clock = clock' }) ends.NoMemory
     ended-no_memory request (part, received, front, exchanged, none) acts =
-        ends_so page before (record { visit = visit; link = link; clock = clock })
-        (record { visit = visit; link = link'; clock = clock' }) kept held run ends.NoMemory
+        ends_so page before (record { visit = visit; link = link; pauses = pauses; clock = clock })
+        (record { visit = visit; link = link'; pauses = pauses'; clock = clock' }) kept held run
+        ends.NoMemory
         (record {
           last = t;
           part = part;
@@ -319,6 +337,7 @@ module _ (page : Ending) (before : Scene) (visit visit' : VisitState)
           past = as_it_is;
           moment = moment;
           exchanged = exchanged;
+          pauses = still;
           bad = λ e. absurd cc;
           sent_as = (request, by_terms (send request) acts, (part, front, refl));
           over_is = tt;
@@ -327,10 +346,11 @@ module _ (page : Ending) (before : Scene) (visit visit' : VisitState)
 -- ---- before the first turn
 
 pub not_begun : (page : Ending) (visit : VisitState) (link : Option (List ℕ × List ℕ))
-    (clock : Option (ℕ → ℕ)) (held : List ℕ) → IsNew visit → held ≡ []
-    → IsUnderway page (record { visit = visit; link = link; clock = clock })
-    (record { visit = visit; link = link; clock = clock }) (Some page) held
-not_begun page visit link clock held new none = record {
+    (pauses : Option (List ℕ × ℕ)) (clock : Option (ℕ → ℕ)) (held : List ℕ) → IsNew visit
+    → held ≡ []
+    → IsUnderway page (record { visit = visit; link = link; pauses = pauses; clock = clock })
+    (record { visit = visit; link = link; pauses = pauses; clock = clock }) (Some page) held
+not_begun page visit link pauses clock held new none = record {
   turns = [];
   received = [];
   terms = refl;
@@ -338,6 +358,7 @@ not_begun page visit link clock held new none = record {
   past = new.past;
   moments = GaveMoments-nil clock;
   exchanged = Exchanges-nil link;
+  pauses = KeepsPauses-nil pauses;
   answers = sym none;
   steps = λ t. omega (arith, new.steps t);
   kept_is = refl;

@@ -21,10 +21,10 @@ use Rattle.visit_core.proofs.ReleaseLemmas.{releases}
 use Rattle.page_link.specs.declared.visit_end.VisitEnd.{VisitEnd}
 use Rattle.page_link.specs.declared.visit_end.VisitEnd.TheVariants as ends
 use Rattle.page_link.specs.Exchanges.{IsUnderway, kept_ending}
-use Rattle.page_link.specs.Links.{Exchanges}
-use Rattle.page_link.specs.Turns.{Turn, moment_of, events_of, text_of, answer_of, past_of, texts_of, answers_of, GaveMoments}
+use Rattle.page_link.specs.Links.{Exchanges, KeepsPauses}
+use Rattle.page_link.specs.Turns.{Turn, moment_of, events_of, text_of, answer_of, pause_of, past_of, texts_of, answers_of, pauses_of, GaveMoments}
 use Rattle.page_link.specs.Visits.{Scene, Follows, AllFollow, IsVisit, ForcesOldLocks, IsBadRest, AreAllReplies, SentAs, loss_of, IfOver, TellsReplies, EndsWell, most_requests}
-use Rattle.page_link.proofs.LinkLemmas.{Exchanges-trans}
+use Rattle.page_link.proofs.LinkLemmas.{Exchanges-trans, KeepsPauses-trans}
 
 -- ---- moments
 
@@ -85,6 +85,7 @@ pub record Goes (ending : Ending) (before now now' : Scene) (kept kept' : Option
     pub moment : GivesMoment now.clock now'.clock (moment_of turn)
     pub received : List ℕ
     pub exchanged : Exchanges now.link now'.link (text_of turn) received
+    pub pauses : KeepsPauses now.pauses now'.pauses (pause_of turn)
     pub answers : Spelled SpellsReply (run.received ++ received)
         (answers_of run.turns ++ answer_of turn) held'
     pub steps : (t : ℕ) → (u : ℕ)
@@ -100,6 +101,7 @@ goes_on ending before now now' kept kept' held held' run turn goes =
     let pasts = sym (flat_map-push (events_of ending) run.turns turn) in
     let texts = sym (flat_map-push text_of run.turns turn) in
     let answers = sym (flat_map-push answer_of run.turns turn) in
+    let pauses = sym (flat_map-push pause_of run.turns turn) in
     record {
       turns = run.turns ++ turn ∷ [];
       received = run.received ++ goes.received;
@@ -114,6 +116,9 @@ goes_on ending before now now' kept kept' held held' run turn goes =
           texts
           (Exchanges-trans before.link now.link now'.link (texts_of run.turns)
           (text_of turn) run.received goes.received run.exchanged goes.exchanged);
+      pauses = subst (KeepsPauses before.pauses now'.pauses) pauses
+          (KeepsPauses-trans before.pauses now.pauses now'.pauses (pauses_of run.turns)
+          (pause_of turn) run.pauses goes.pauses);
       answers = subst (λ l. Spelled SpellsReply (run.received ++ goes.received) l held') answers
           goes.answers;
       steps = λ t. let more = goes.steps t in
@@ -173,6 +178,7 @@ pub record Ends (ending : Ending) (before now after : Scene) (kept : Option Endi
   pub past : HasPast after.visit (past_of ending run.turns ++ loss_of end)
   pub moment : GivesMoment now.clock after.clock last
   pub exchanged : Exchanges now.link after.link part received
+  pub pauses : after.pauses ≡ now.pauses
   pub bad : end ≡ ends.BadReply → IsBadRest after.link (held ++ received)
   pub sent_as : SentAs end (act_of before.visit.terms (past_of ending run.turns) last)
       (texts_of run.turns) (texts_of run.turns ++ part)
@@ -205,6 +211,8 @@ ends_so ending before now after kept held run end ended =
       moments = GaveMoments-push before.clock now.clock after.clock (map moment_of run.turns)
           ended.last run.moments ended.moment;
       exchanged = exchanged;
+      pauses = subst (λ p. KeepsPauses before.pauses p (pauses_of run.turns)) (sym ended.pauses)
+          run.pauses;
       sent_as = ended.sent_as;
       answers = answers;
       few = omega (arith, run.steps 0);

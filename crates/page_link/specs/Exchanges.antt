@@ -10,8 +10,8 @@ use Rattle.visit_core.specs.Stages.{VisitState, HasPast, steps_left}
 use Rattle.visit_core.specs.Terms.{EndingFits}
 use Rattle.page_link.specs.declared.exchange.Break.{Break}
 use Rattle.page_link.specs.declared.exchange.Break.TheVariants as breaks
-use Rattle.page_link.specs.Links.{Exchanges, Receives}
-use Rattle.page_link.specs.Turns.{Turn, moment_of, heard_of, has_lost, past_of, texts_of, answers_of, GaveMoments}
+use Rattle.page_link.specs.Links.{Exchanges, Receives, KeepsPauses}
+use Rattle.page_link.specs.Turns.{Turn, moment_of, heard_of, has_lost, past_of, texts_of, answers_of, pauses_of, GaveMoments}
 use Rattle.page_link.specs.Visits.{Scene, AllFollow, IsBadRest, IsFront, IsWhole, most_requests}
 
 -- ---- one request
@@ -91,6 +91,7 @@ pub record IsUnderway (ending : Ending) (before now : Scene) (kept : Option Endi
   pub past : HasPast now.visit (past_of ending turns)
   pub moments : GaveMoments before.clock now.clock (map moment_of turns)
   pub exchanged : Exchanges before.link now.link (texts_of turns) received
+  pub pauses : KeepsPauses before.pauses now.pauses (pauses_of turns)
   pub answers : Spelled SpellsReply received (answers_of turns) held
   pub steps : (t : ℕ)
       → length (answers_of turns) + steps_left now.visit t ≤ most_requests before.visit.terms

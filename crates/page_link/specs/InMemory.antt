@@ -2,8 +2,8 @@
 use Rattle.std.specs.Prelude.{ℕ, ◌<◌, ◌⊎◌, List, length, min, Contains}
 
 -- A link: the bytes sent, how many more it has room for, the bytes to be received and the most of
--- them in a receipt, how many sends and receipts
--- were made, which of them fail, and how many did.
+-- them in a receipt, how many sends and receipts were made, which of them fail, and how many did; the
+-- moments of the pauses that it kept, and how many more it has room for.
 pub record LinkInMemory : Type 0 where
   pub sent : List ℕ
   pub room : ℕ
@@ -14,6 +14,8 @@ pub record LinkInMemory : Type 0 where
   pub send_fails : List ℕ
   pub receive_fails : List ℕ
   pub faults : ℕ
+  pub pauses : List ℕ
+  pub pause_room : ℕ
 
 -- how many bytes a receipt gives that does not fail
 abbrev pub receipt_count : LinkInMemory → List ℕ → ℕ

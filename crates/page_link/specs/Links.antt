@@ -1,5 +1,6 @@
--- What the calls of a link do to what it tells: the bytes sent, and the bytes still to be received.
-use Rattle.std.specs.Prelude.{◌≡◌, ℕ, ◌≤◌, List, ◌++◌, length, take, Option, Some, None, Result, MatchResult, IfOk, ⊤}
+-- What the calls of a link do to what it tells: the bytes sent and the bytes still to be received,
+-- and its pauses.
+use Rattle.std.specs.Prelude.{◌≡◌, ℕ, ◌-◌, ◌≤◌, List, ◌++◌, length, take, Option, Some, None, Result, MatchResult, IfOk, ⊤}
 use Rattle.asp_base.specs.Outside.{IsAtEnd}
 
 -- these bytes are sent: the link tells nothing, or they go behind those sent
@@ -37,3 +38,12 @@ Exchanges None (Some new) sent received = ⊥
 Exchanges (Some old) None sent received = ⊥
 Exchanges (Some old) (Some new) sent received = (new.0 ≡ old.0 ++ sent)
     × (old.1 ≡ received ++ new.1)
+
+-- over several calls it was told to pause until these moments: the link tells no pauses, or so many
+-- of them as it has room for go behind those kept
+abbrev pub KeepsPauses : Option (List ℕ × ℕ) → Option (List ℕ × ℕ) → List ℕ → Type 0
+KeepsPauses None None moments = ⊤
+KeepsPauses None (Some new) moments = ⊥
+KeepsPauses (Some old) None moments = ⊥
+KeepsPauses (Some old) (Some new) moments = (new.0 ≡ old.0 ++ take old.1 moments)
+    × (new.1 ≡ old.1 - length moments)

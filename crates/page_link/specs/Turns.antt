@@ -44,8 +44,14 @@ answer_of (asked t request answer) = answer ∷ []
 answer_of (paused t until) = []
 answer_of (ran t) = []
 
--- the past of a visit with this ending, the texts of the requests that were answered, and the
--- answers, all in order
+-- the moment until which the visit paused
+abbrev pub pause_of : Turn → List ℕ
+pause_of (asked t request answer) = []
+pause_of (paused t until) = until ∷ []
+pause_of (ran t) = []
+
+-- the past of a visit with this ending, the texts of the requests that were answered, the answers,
+-- and the moments until which the visit paused, all in order
 abbrev pub past_of : Ending → List Turn → List Event
 past_of ending turns = flat_map (events_of ending) turns
 
@@ -54,6 +60,9 @@ texts_of turns = flat_map text_of turns
 
 abbrev pub answers_of : List Turn → List Answer
 answers_of turns = flat_map answer_of turns
+
+abbrev pub pauses_of : List Turn → List ℕ
+pauses_of turns = flat_map pause_of turns
 
 -- the link was lost
 abbrev pub has_lost : List Event → Bool

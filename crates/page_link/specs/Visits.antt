@@ -15,13 +15,15 @@ use Rattle.visit_core.specs.Stages.{VisitState, HasPast, steps_left}
 use Rattle.visit_core.specs.Terms.{Terms}
 use Rattle.page_link.specs.declared.visit_end.VisitEnd.{VisitEnd}
 use Rattle.page_link.specs.declared.visit_end.VisitEnd.TheVariants.{Over, BadReply, NoMemory}
-use Rattle.page_link.specs.Links.{Exchanges}
-use Rattle.page_link.specs.Turns.{Turn, asked, paused, ran, events_of, moment_of, past_of, texts_of, answers_of, GaveMoments}
+use Rattle.page_link.specs.Links.{Exchanges, KeepsPauses}
+use Rattle.page_link.specs.Turns.{Turn, asked, paused, ran, events_of, moment_of, past_of, texts_of, answers_of, pauses_of, GaveMoments}
 
--- A visit at one time, with what its link tells and the moments that its clock has still to give.
+-- A visit at one time, with what its link tells, of its bytes and of its pauses, and the moments
+-- that its clock has still to give.
 pub record Scene : Type 0 where
   pub visit : VisitState
   pub link : Option (List ℕ × List ℕ)
+  pub pauses : Option (List ℕ × ℕ)
   pub clock : Option (ℕ → ℕ)
 
 -- a visit has at most so many requests
@@ -120,7 +122,8 @@ TellsReplies (Some told) count = (answers : List Answer) × (rest : List ℕ)
 
 -- A visit with this ending came to its end: its turns, by the rule, and the moment of the last one,
 -- which ended it; its past, which is lawful and leads to the visit as it is now; the bytes sent and
--- received, of which the latter are the answers and a rest.
+-- received, of which the latter are the answers and a rest. The link was told to pause once for each
+-- turn that waited, until that turn's moment, and never else.
 pub record IsVisit (ending : Ending) (before after : Scene) (end : VisitEnd) : Type 0 where
   pub turns : List Turn
   pub last : ℕ
@@ -135,6 +138,7 @@ pub record IsVisit (ending : Ending) (before after : Scene) (end : VisitEnd) : T
       act_of before.visit.terms (past_of ending turns ++ loss_of end) last ≡ over outcome)
   pub moments : GaveMoments before.clock after.clock (map moment_of turns ++ last ∷ [])
   pub exchanged : Exchanges before.link after.link sent received
+  pub pauses : KeepsPauses before.pauses after.pauses (pauses_of turns)
   pub sent_as : SentAs end (act_of before.visit.terms (past_of ending turns) last)
       (texts_of turns) sent
   pub answers : Spelled SpellsReply received (answers_of turns) rest

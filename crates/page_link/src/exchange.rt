@@ -36,6 +36,7 @@ pub fn ask<R, L: Link>(
     ensures none { IfErr result (AsksInVain (L.told link.old) (L.told link.new)
         (request_text request.now) client.old.reader.bytes.held) }
     ensures lost { result ≡ Err Break.LinkFault → Rose (L.faults link.old) (L.faults link.new) }
+    ensures pauses { L.pauses link.new ≡ L.pauses link.old }
     ensures faults { L.faults link.old ≤ L.faults link.new }
 {
     client.text.clear();

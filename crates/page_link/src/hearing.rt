@@ -29,6 +29,7 @@ fn receive_piece<R, L: Link>(rt: &R, reader: &mut ReplyReader, link: &mut L) -> 
     ensures end { result ≡ Err Break.BadReply → Receives (L.told link.old) (L.told link.new) []
         × IsAtEnd (L.told link.new) }
     ensures lost { result ≡ Err Break.LinkFault → Rose (L.faults link.old) (L.faults link.new) }
+    ensures pauses { L.pauses link.new ≡ L.pauses link.old }
     ensures faults { L.faults link.old ≤ L.faults link.new }
 {
     let mut buf = [0u8; MOST_RECEIPT];
@@ -54,6 +55,7 @@ pub fn hear<R, L: Link>(rt: &R, reader: &mut ReplyReader, link: &mut L) -> Resul
     ensures none { IfErr result (HearsNone (L.told link.old) (L.told link.new)
         reader.old.bytes.held) }
     ensures lost { result ≡ Err Break.LinkFault → Rose (L.faults link.old) (L.faults link.new) }
+    ensures pauses { L.pauses link.new ≡ L.pauses link.old }
     ensures faults { L.faults link.old ≤ L.faults link.new }
 {
     loop {

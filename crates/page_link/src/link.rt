@@ -1,7 +1,7 @@
 //! A link to the state server.
-ghost use Rattle.std.specs.Prelude.{◌≡◌, ℕ, ◌<◌, ◌≤◌, List, Option, length, MatchResult};
+ghost use Rattle.std.specs.Prelude.{◌≡◌, ℕ, ◌<◌, ◌≤◌, List, Option, [], ◌∷◌, length, MatchResult};
 ghost use Rattle.asp_base.specs.Causes.{HasCause};
-ghost use Rattle.page_link.specs.Links.{IsReceipt, Sends, SendsFront};
+ghost use Rattle.page_link.specs.Links.{IsReceipt, KeepsPauses, Sends, SendsFront};
 
 use asp_base::Failed;
 use std::rt::Clock as HostTime;
@@ -10,6 +10,10 @@ use std::rt::Clock as HostTime;
 pub trait Link {
     /// The bytes sent so far and the bytes still to be received, where the link tells them.
     ghost told: { Self → Option (List ℕ × List ℕ) };
+
+    /// The moments of the first pauses, in order, and for how many more it has room, where the link
+    /// tells them. A link may tell its bytes and not its pauses, or the other way round.
+    ghost pauses: { Self → Option (List ℕ × ℕ) };
 
     /// How often it failed.
     ghost faults: { Self → ℕ };
@@ -20,6 +24,7 @@ pub trait Link {
         ensures sends { MatchResult result
             (λ _. Sends (told self.old) (told self.new) piece.now)
             (λ _. SendsFront (told self.old) (told self.new) piece.now) }
+        ensures pauses { pauses self.new ≡ pauses self.old }
         ensures cause { HasCause (faults self.old) (faults self.new) result };
 
     /// Puts the next bytes received into `buf`, which is not empty, and answers how many; 0 is the
@@ -27,10 +32,12 @@ pub trait Link {
     fn receive<R>(&mut self, rt: &R, buf: &mut [u8]) -> Result<usize, Failed>
         requires { 0 < length buf.old }
         ensures receives { IsReceipt (told self.old) (told self.new) result buf.new }
+        ensures pauses { pauses self.new ≡ pauses self.old }
         ensures cause { HasCause (faults self.old) (faults self.new) result };
 
     /// Lets time pass until the moment `until`, in milliseconds.
     fn pause<R: HostTime>(&mut self, rt: &R, until: u64)
         ensures told { told self.new ≡ told self.old }
+        ensures pauses { KeepsPauses (pauses self.old) (pauses self.new) (until ∷ []) }
         ensures faults { faults self.old ≤ faults self.new };
 }

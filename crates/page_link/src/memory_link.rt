@@ -1,9 +1,9 @@
 //! A link in memory, which fails where it is told to.
-ghost use Rattle.std.specs.Prelude.{◌≡◌, ◌<◌, ◌≤◌, ◌↔◌, [], ◌++◌, ℕ, List, Option, length, take, Some, MatchResult, IfOk, IsErr, Contains};
+ghost use Rattle.std.specs.Prelude.{◌≡◌, ◌<◌, ◌≤◌, ◌↔◌, ◌+◌, ◌-◌, [], ◌∷◌, ◌++◌, ℕ, List, Option, length, take, Some, MatchResult, IfOk, IsErr, Contains};
 ghost use Rattle.asp_base.specs.Causes.{HasCause};
 ghost use Rattle.asp_base.specs.InMemory.{one_more};
 ghost use Rattle.page_link.specs.InMemory.{receipt_count, FailsSend};
-ghost use Rattle.page_link.specs.Links.{IsReceipt, Sends, SendsFront};
+ghost use Rattle.page_link.specs.Links.{IsReceipt, KeepsPauses, Sends, SendsFront};
 
 use crate::Link;
 use asp_base::{Bytes, Failed, MemorySource, NoMemory, Source};
@@ -21,6 +21,8 @@ pub struct MemoryLink {
     sends: u64,
     send_fails: Vec<u64>,
     faults: u64,
+    pauses: Vec<u64>,
+    pause_room: usize,
 }
 
 impl Model for MemoryLink {
@@ -39,9 +41,12 @@ impl Model for MemoryLink {
       send_fails = l.send_fails.items;
       receive_fails = l.incoming.fails;
       faults = l.faults;
+      pauses = l.pauses.items;
+      pause_room = l.pause_room;
     } };
 
-    ghost invariant = { λ l. vec_len l.sent + l.room ≤ vec_capacity l.sent };
+    ghost invariant = { λ l. (vec_len l.sent + l.room ≤ vec_capacity l.sent)
+        × (vec_len l.pauses + l.pause_room ≤ vec_capacity l.pauses) };
 }
 
 impl MemoryLink {
@@ -69,6 +74,8 @@ impl MemoryLink {
           send_fails = send_fails.items;
           receive_fails = receive_fails.items;
           faults = 0;
+          pauses = [];
+          pause_room = 0;
         }) }
     {
         let room = room as usize;
@@ -79,7 +86,29 @@ impl MemoryLink {
             sends: 0,
             send_fails,
             faults: 0,
+            pauses: Vec::new(alloc),
+            pause_room: 0,
         })
+    }
+
+    /// This link, with room for the moments of so many pauses, in place of those that it kept. The
+    /// only error is want of memory for the room.
+    pub fn keeping_pauses(self, alloc: Global, most: u64) -> Result<MemoryLink, NoMemory>
+        ensures { IfOk result (λ l. l ≡ record self { pauses = []; pause_room = most }) }
+    {
+        let room = most as usize;
+        let mut link = self;
+        link.pauses = Vec::with_capacity(alloc, room)?;
+        link.pause_room = room;
+        Ok(link)
+    }
+
+    /// The moments until which it was told to pause, in order, so many of the first of them as it
+    /// had room for.
+    pub fn pauses(&self) -> &[u64]
+        ensures { result.now ≡ self.now.pauses }
+    {
+        self.pauses.as_slice()
     }
 
     /// The bytes sent so far.
@@ -100,6 +129,8 @@ impl MemoryLink {
 impl Link for MemoryLink {
     ghost told = { λ l. Some (l.sent, l.incoming) };
 
+    ghost pauses = { λ l. Some (l.pauses, l.pause_room) };
+
     ghost faults = { λ l. l.faults };
 
     fn send<R>(&mut self, _rt: &R, piece: &[u8]) -> Result<(), Failed>
@@ -108,6 +139,9 @@ impl Link for MemoryLink {
             (Some (self.new.sent, self.new.incoming)) piece.now)
             (λ _. SendsFront (Some (self.old.sent, self.old.incoming))
             (Some (self.new.sent, self.new.incoming)) piece.now) }
+        ensures pauses { let old : Option (List ℕ × ℕ) =
+            Some (self.old.pauses, self.old.pause_room) in
+            Some (self.new.pauses, self.new.pause_room) ≡ old }
         ensures cause { HasCause self.old.faults self.new.faults result }
 
         // It fails at the listed sends and where it has no room for the whole piece, and nowhere
@@ -118,6 +152,20 @@ impl Link for MemoryLink {
         ensures kept { (Contains self.old.send_fails self.old.sends → ⊥)
             → self.new.sent ≡ self.old.sent ++ take self.old.room piece.now }
         ensures number { self.new.sends ≡ one_more self.old.sends }
+
+        // A listed send keeps nothing; the room shrinks by what is kept.
+        ensures nothing { Contains self.old.send_fails self.old.sends
+            → self.new.sent ≡ self.old.sent }
+        ensures room { length self.new.sent + self.new.room ≡ length self.old.sent + self.old.room }
+
+        // Each failure is counted, and nothing else is; receipts are not numbered, and what it was
+        // made for stays.
+        ensures counted { MatchResult result (λ _. self.new.faults ≡ self.old.faults)
+            (λ _. self.new.faults ≡ one_more self.old.faults) }
+        ensures receipts { self.new.receipts ≡ self.old.receipts }
+        ensures piece { self.new.piece ≡ self.old.piece }
+        ensures send_fails { self.new.send_fails ≡ self.old.send_fails }
+        ensures receive_fails { self.new.receive_fails ≡ self.old.receive_fails }
     {
         let call = self.sends;
         self.sends = call.saturating_add(1);
@@ -139,12 +187,25 @@ impl Link for MemoryLink {
         requires { 0 < length buf.old }
         ensures receives { IsReceipt (Some (self.old.sent, self.old.incoming))
             (Some (self.new.sent, self.new.incoming)) result buf.new }
+        ensures pauses { let old : Option (List ℕ × ℕ) =
+            Some (self.old.pauses, self.old.pause_room) in
+            Some (self.new.pauses, self.new.pause_room) ≡ old }
         ensures cause { HasCause self.old.faults self.new.faults result }
 
         // It fails at the listed receipts and nowhere else.
         ensures fails { IsErr result ↔ Contains self.old.receive_fails self.old.receipts }
         ensures count { IfOk result (λ n. n ≡ receipt_count self.old buf.old) }
         ensures number { self.new.receipts ≡ one_more self.old.receipts }
+
+        // Each failure is counted, and nothing else is; sends are not numbered, and what it was made
+        // for stays.
+        ensures counted { MatchResult result (λ _. self.new.faults ≡ self.old.faults)
+            (λ _. self.new.faults ≡ one_more self.old.faults) }
+        ensures sends { self.new.sends ≡ self.old.sends }
+        ensures room { self.new.room ≡ self.old.room }
+        ensures piece { self.new.piece ≡ self.old.piece }
+        ensures send_fails { self.new.send_fails ≡ self.old.send_fails }
+        ensures receive_fails { self.new.receive_fails ≡ self.old.receive_fails }
     {
         match self.incoming.read(buf) {
             Ok(count) => Ok(count),
@@ -152,11 +213,23 @@ impl Link for MemoryLink {
         }
     }
 
-    fn pause<R: HostTime>(&mut self, _rt: &R, _until: u64)
+    fn pause<R: HostTime>(&mut self, _rt: &R, until: u64)
         ensures told { let old : Option (List ℕ × List ℕ) =
             Some (self.old.sent, self.old.incoming) in
             Some (self.new.sent, self.new.incoming) ≡ old }
+        ensures pauses { KeepsPauses (Some (self.old.pauses, self.old.pause_room))
+            (Some (self.new.pauses, self.new.pause_room)) (until ∷ []) }
         ensures faults { self.old.faults ≤ self.new.faults }
-        ensures same { self.new ≡ self.old }
-    {}
+
+        // No time passes: the pause is kept where there is room, and nothing else changes.
+        ensures same { self.new ≡ record self.old {
+          pauses = self.new.pauses;
+          pause_room = self.new.pause_room;
+        } }
+    {
+        if self.pause_room > 0 {
+            self.pause_room -= 1;
+            let _kept = self.pauses.push(until);
+        }
+    }
 }

@@ -10,7 +10,7 @@ use std::rt::Clock as HostTime;
 use std::thread;
 use std::time::Duration;
 
-/// A link over a connection. It tells no bytes, tries again after an interruption, and counts each
+/// A link over a connection. It tells no bytes and no pauses, tries again after an interruption, and counts each
 /// other error. Contracts see that count.
 #[derive(Drop)]
 pub struct TcpLink<S> {
@@ -46,6 +46,8 @@ impl<S: OpenStream + Drop> TcpLink<S> {
 
 impl<S: Read + Write> Link for TcpLink<S> {
     ghost told = { λ _. None };
+
+    ghost pauses = { λ _. None };
 
     ghost faults = { λ count. count };
 

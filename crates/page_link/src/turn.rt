@@ -33,12 +33,14 @@ pub fn take_turn<R: HostTime, L: Link, C: Clock>(
         → IsUnderway page before (record {
           visit = visit.old;
           link = L.told link.old;
+          pauses = L.pauses link.old;
           clock =
               C.told clock.old;
         }) ending.old client.old.reader.bytes.held
         → IsUnderway page before (record {
           visit = visit.new;
           link = L.told link.new;
+          pauses = L.pauses link.new;
           clock =
               C.told clock.new;
         }) ending.new client.new.reader.bytes.held) }
@@ -51,12 +53,14 @@ pub fn take_turn<R: HostTime, L: Link, C: Clock>(
         → IsUnderway page before (record {
           visit = visit.old;
           link = L.told link.old;
+          pauses = L.pauses link.old;
           clock =
               C.told clock.old;
         }) ending.old client.old.reader.bytes.held
         → IsVisit page before (record {
           visit = visit.new;
           link = L.told link.new;
+          pauses = L.pauses link.new;
           clock =
               C.told clock.new;
         }) end) }

@@ -34,8 +34,18 @@ pub fn run_visit<R: Wait + HostTime, L: Link, C: Clock>(
     requires new { IsNew visit.old }
     requires fits { EndingFits ending }
     ensures visit { IsVisit ending
-        (record { visit = visit.old; link = L.told link.old; clock = C.told clock.old })
-        (record { visit = visit.new; link = L.told link.new; clock = C.told clock.new }) result }
+        (record {
+          visit = visit.old;
+          link = L.told link.old;
+          pauses = L.pauses link.old;
+          clock = C.told clock.old;
+        })
+        (record {
+          visit = visit.new;
+          link = L.told link.new;
+          pauses = L.pauses link.new;
+          clock = C.told clock.new;
+        }) result }
     ensures lost { result ≡ Over LinkFault → Rose (L.faults link.old) (L.faults link.new) }
     ensures faults { L.faults link.old ≤ L.faults link.new }
 

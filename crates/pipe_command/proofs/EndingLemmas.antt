@@ -1,11 +1,10 @@
 -- A run of a responder from its beginning to its end.
-use Rattle.std.proofs.Common.{◌≡◌, ℕ, ◌+◌, ◌<◌, ◌≤◌, Bool, true, false, not, List, [], ◌∷◌, ◌++◌, length, take, Option, Some, None, refl, sym, ap, ◌∙◌, arith, subst, inl, inr, append-nil, length-append}
+use Rattle.std.proofs.Common.{◌≡◌, ℕ, ◌+◌, ◌<◌, ◌≤◌, Bool, true, false, not, List, [], ◌∷◌, ◌++◌, length, take, Option, Some, None, refl, sym, ap, ◌∙◌, arith, subst, inl, inr, append-nil}
 use Rattle.std.specs.List.{AllByRecursion}
 use Rattle.std.specs.Prelude.{◌⊎◌, ◌≢◌, All, IsTrue}
-use Rattle.std.proofs.Math.Seq.{take-append-add}
 use Rattle.std.proofs.lemmas.List.Elements.{All-from_recursion}
 use Rattle.asp_base.specs.Moments.{step_moment}
-use Rattle.asp_base.specs.Outside.{Takes, TakesFront}
+use Rattle.asp_base.specs.Outside.{Takes}
 use Rattle.asp_messages.specs.declared.request.Ask.TheVariants.{Read}
 use Rattle.asp_messages.specs.declared.request.Message.TheVariants.{Fit}
 use Rattle.asp_messages.specs.declared.request.Request.{Request}
@@ -23,6 +22,7 @@ use Rattle.percent_encoding.proofs.PercentLemmas.{IsByte}
 use Rattle.session_machine.specs.declared.entry.Entry.{Entry}
 use Rattle.session_machine.specs.declared.item.Item.{Item}
 use Rattle.session_machine.specs.History.{nothing}
+use Rattle.session_machine.specs.Profiles.{newest}
 use Rattle.shard_core.specs.Standing.{StandsFor}
 use Rattle.stream_core.specs.Connection.{Connection}
 use Rattle.stream_run.specs.declared.consumer.Consumer.{Ghosts}
@@ -34,10 +34,10 @@ use Rattle.pipe_command.specs.declared.pipe.Verdict.{Verdict}
 use Rattle.pipe_command.specs.declared.pipe.Verdict.TheVariants as verdicts
 use Rattle.pipe_command.specs.declared.responder.Responder.{Responder}
 use Rattle.pipe_command.specs.Giving.{given_body, given_head}
-use Rattle.pipe_command.specs.PlainRun.{MayLack, closing, output_of, written_as}
-use Rattle.pipe_command.specs.Progress.{Progress}
-use Rattle.pipe_command.specs.Responding.{Breaks, Closes, Gave, HasAnswered, Lacks, Waits, Went, owing, state_of, unbegun}
-use Rattle.pipe_command.specs.Run.{End, EndsAs, IsRun, PipeFits, Reached, StopsBroken, NeverFails, TellsLocks}
+use Rattle.pipe_command.specs.PlainRun.{closing, output_of, written_as}
+use Rattle.pipe_command.specs.Progress.{Progress, ProgressLast}
+use Rattle.pipe_command.specs.Responding.{Breaks, Closes, Gave, HasAnswered, IsUnbegun, Lacks, Waits, Went, owing, state_of, unbegun}
+use Rattle.pipe_command.specs.Run.{End, EndsAs, IsRun, PipeFits, Reached, StopsBroken, NeverFails, TellsLocks, Wrote, WroteInPart, closing_in, due_in}
 use Rattle.pipe_command.proofs.ResponderLemmas.{due_of, hopeless_none, rest_waits}
 
 -- ---- a beginning
@@ -47,6 +47,12 @@ begins : (journal is_begun : Bool) → is_begun ≡ not journal
     → owing is_begun [] ≡ written_as (output_of journal) [] []
 begins false is_begun is = ap (λ b. owing b []) is
 begins true is_begun is = ap (λ b. owing b []) is
+
+-- and nothing was taken before it
+unbegun_first : (journal is_begun : Bool) → is_begun ≡ not journal
+    → IsUnbegun is_begun journal [] []
+unbegun_first false is_begun is = subst (λ b. IsUnbegun b false [] []) (sym is) tt
+unbegun_first true is_begun is = subst (λ b. IsUnbegun b true [] []) (sym is) (refl, refl, refl)
 
 pub Went-start : {K : Type 0} (G : keepers.Ghosts K) (r : Responder K) → PipeFits r.pipe
     → r.is_begun ≡ not r.pipe.journal → r.stream ≡ record { reader = empty_reader; is_due = false }
@@ -85,6 +91,7 @@ Went-start G r fits begun stream stands cookies clock =
           step = ap (λ k. k.step) clock;
         };
       },
+      unbegun_first r.pipe.journal r.is_begun begun,
     )
 
 -- ---- endings
@@ -101,7 +108,8 @@ no_faults_of : (CanCount : ℕ → Type 0) (told : Option (List ℕ → Option I
     → AllByRecursion (λ e. CanCount e.faults) list → NeverFails CanCount told list
 no_faults_of CanCount None faults list stands counts = tt
 no_faults_of CanCount (Some items) faults list stands counts =
-    λ never. faults-counted nothing list stands.told_is.0 (no-counts CanCount list counts never)
+    λ never. faults-counted newest nothing list stands.told_is.0
+    (no-counts CanCount list counts never)
 
 -- a rest that is hopeless is not empty: a read of `/` could follow it
 hopeless_after : (r : Request) → RequestFits r → All IsByte r.key → (rest : List ℕ)
@@ -123,15 +131,6 @@ room_more : (more : Bool) (count most : ℕ) → IsTrue more → HasRoom more co
 room_more true count most is room = room
 room_more false count most is room = cc
 
--- so many bytes behind a text are a front of both
-front_of : (sink sink' : Option (List ℕ)) (whole last : List ℕ) (n : ℕ) → n ≤ length last
-    → Takes sink sink' (whole ++ take n last) → TakesFront sink sink' (whole ++ last)
-front_of sink sink' whole last n le wrote = (
-  length whole + n,
-  omega (arith, le, length-append whole last),
-  subst (Takes sink sink') (sym (take-append-add whole last n)) wrote,
-)
-
 module _ {K : Type 0} (G : keepers.Ghosts K) where
   abbrev pub ghosts : Ghosts (Responder K) Verdict
   ghosts = record {
@@ -149,51 +148,61 @@ module _ {K : Type 0} (G : keepers.Ghosts K) where
 
   module _ (most : ℕ) (first now : Responder K) (f : Flow) where
     -- the floor is kept at each ending
-    over_keeps : (verdict : Verdict) (bytes whole last : List ℕ)
-        → IsOver ghosts most first now f.source' bytes verdict whole last
-        → (rest : List ℕ) × (due : List ℕ) × HasAnswered G first now bytes rest due
-    over_keeps verdicts.Whole bytes whole last (inl (closes, end, some)) = ([], whole, closes.1)
-    over_keeps verdicts.Broken bytes whole last (inl (closes, end, some)) =
-        (closes.1.0, whole, closes.1.3)
-    over_keeps verdicts.Whole bytes whole last (inr (more, breaks, room)) = absurd breaks.1
-    over_keeps verdicts.Broken bytes whole last (inr (more, breaks, room)) =
-        (breaks.1.1.0, whole, breaks.1.1.2)
+    abbrev KeepsFloor : Type 0
+    KeepsFloor = G.floor now.desk.keeper ≡ G.floor first.desk.keeper
 
-    part_keeps : (bytes whole last : List ℕ)
+    over_floor : (verdict : Verdict) (bytes whole last : List ℕ)
+        → IsOver ghosts most first now f.source' bytes verdict whole last → KeepsFloor
+    over_floor verdicts.Whole bytes whole last (inl (closes, end, some)) = closes.1.floor
+    over_floor verdicts.Broken bytes whole last (inl (closes, end, some)) = closes.1.3.floor
+    over_floor verdicts.Whole bytes whole last (inr (more, breaks, room)) = absurd breaks.1
+    over_floor verdicts.Broken bytes whole last (inr (more, breaks, room)) = breaks.1.1.2.floor
+
+    part_floor : (bytes whole last : List ℕ)
         → ((verdict : Verdict) × IsOver ghosts most first now f.source' bytes verdict whole last)
-        ⊎ Gave G first now bytes whole last
-        → (rest : List ℕ) × (due : List ℕ) × HasAnswered G first now bytes rest due
-    part_keeps bytes whole last (inl (verdict, over)) = over_keeps verdict bytes whole last over
-    part_keeps bytes whole last (inr gave) = (gave.0, whole ++ last, gave.1)
+        ⊎ Gave G first now bytes whole last → KeepsFloor
+    part_floor bytes whole last (inl (verdict, over)) = over_floor verdict bytes whole last over
+    part_floor bytes whole last (inr (rest, inl has)) = has.floor
+    part_floor bytes whole last (inr (rest, inr (has, line))) = has.floor
 
-    pub floor_of : (end : End) → Ended ghosts most first now f end
-        → G.floor now.desk.keeper ≡ G.floor first.desk.keeper
+    lacks_floor : (bytes due : List ℕ) → Lacks G first now bytes due → KeepsFloor
+    lacks_floor bytes due (rest, inl has) = has.floor
+    lacks_floor bytes due (rest, inr (journal, (line, has))) = has.floor
+
+    pub floor_of : (end : End) → Ended ghosts most first now f end → KeepsFloor
     floor_of (ends.Over verdict) run =
-        (over_keeps verdict run.taken run.ends.0 run.ends.1 run.ends.2).2.floor
+        over_floor verdict run.taken run.ends.0 run.ends.1 run.ends.2
     floor_of ends.ReadFault run = run.ends.1.2.floor
-    floor_of ends.WriteFault run = (part_keeps run.taken run.ends.0 run.ends.1 run.ends.3).2.floor
-    floor_of ends.NoMemory run = run.ends.1.3.floor
+    floor_of ends.WriteFault run = part_floor run.taken run.ends.0 run.ends.1 run.ends.3
+    floor_of ends.NoMemory run = lacks_floor run.taken run.ends.0 run.ends.1
     floor_of ends.Long run = run.ends.1.2.floor
 
-  module _ (pipe : Pipe) (first now : Responder K) (f : Flow) (is_pipe : first.pipe ≡ pipe) where
+  module _ (first now : Responder K) (f : Flow) where
     -- what the run gives
     abbrev Gives : End → Type 0
-    Gives end = IsRun G.can_count pipe f (G.told now.desk.keeper) (G.count now.desk.keeper) end
+    Gives end =
+        IsRun G.can_count first.pipe f (G.told now.desk.keeper) (G.count now.desk.keeper) end
 
-    abbrev reached : List ℕ → ℕ → List ℕ → Reached
-    reached rest count due = record {
-      output = output_of pipe.journal;
+    -- how far it came, with this rest
+    abbrev ProgressAt : List ℕ → List ℕ → List ℕ → Type 0
+    ProgressAt bytes rest due =
+        Progress G.can_count first.pipe bytes due (record (state_of G now) { held = rest })
+
+    -- where it stood
+    abbrev reached : (bytes rest due : List ℕ) → ProgressAt bytes rest due → Reached
+    reached bytes rest due run = record {
+      pipe = first.pipe;
       flow = f;
+      messages = run.messages;
+      list = run.list;
       rest = rest;
-      count = count;
-      most = pipe.most;
-      due = due;
+      count = length bytes;
     }
 
-    by_run : (end : End) (ended : Ended ghosts pipe.most first now f end) (rest due : List ℕ)
-        → HasAnswered G first now ended.taken rest due
-        → EndsAs end (reached rest (length ended.taken) due) → Gives end
-    by_run end ended rest due has how = record {
+    by_run : (end : End) (ended : Ended ghosts first.pipe.most first now f end)
+        (rest due : List ℕ) (run : ProgressAt ended.taken rest due)
+        → EndsAs end (reached ended.taken rest due run) → Gives end
+    by_run end ended rest due run how = record {
       bytes = ended.taken;
       messages = run.messages;
       rest = rest;
@@ -207,62 +216,97 @@ module _ {K : Type 0} (G : keepers.Ghosts K) where
       locks = locks_of (G.told now.desk.keeper) (G.count now.desk.keeper) run.list run.desk.stands;
       no_faults = no_faults_of G.can_count (G.told now.desk.keeper) (G.count now.desk.keeper)
           run.list run.desk.stands run.desk.counts;
-      ends = subst (λ d. EndsAs end (reached rest (length ended.taken) d)) run.due_is how;
+      ends = how;
     }
-      where
-        run : Progress G.can_count pipe ended.taken due (record (state_of G now) { held = rest })
-        run = subst (λ (p : Pipe). Progress G.can_count p ended.taken due
-            (record (state_of G now) { held = rest })) is_pipe has.progress
 
-    closing_is : (last : List ℕ) → last ≡ closing (output_of first.pipe.journal)
-        → last ≡ closing (output_of pipe.journal)
-    closing_is last is = is ∙ ap (λ (p : Pipe). closing (output_of p.journal)) is_pipe
+    -- all that is due was written
+    all_wrote : (bytes rest due : List ℕ) (run : ProgressAt bytes rest due)
+        → Takes f.sink f.sink' due
+        → Wrote (reached bytes rest due run) (due_in (reached bytes rest due run))
+    all_wrote bytes rest due run wrote = subst (Takes f.sink f.sink') run.due_is wrote
+
+    -- so many bytes of what is due for the last message were
+    part_wrote : (bytes rest whole last : List ℕ) (n : ℕ)
+        (run : ProgressLast G.can_count first.pipe bytes whole last
+        (record (state_of G now) { held = rest }))
+        → n ≤ length last → Takes f.sink f.sink' (whole ++ take n last)
+        → WroteInPart (reached bytes rest (whole ++ last) run.progress) n
+    part_wrote bytes rest whole last n run le wrote =
+        record { whole = whole; last = last; splits = run.parts; part = le; took = wrote }
 
     -- the rest of an input that is broken, with what closes it
-    module _ (end : End) (ended : Ended ghosts pipe.most first now f end) (whole last : List ℕ)
-        (Wrote : List ℕ → Type 0)
-        (how : (rest : List ℕ) → StopsBroken (reached rest (length ended.taken) whole)
-        → Wrote (whole ++ closing (output_of pipe.journal))
-        → EndsAs end (reached rest (length ended.taken) whole))
+    module _ (end : End) (ended : Ended ghosts first.pipe.most first now f end)
+        (whole last : List ℕ) (Closed : List ℕ → List ℕ → Type 0)
+        (closed : Closed whole last)
+        (how : (rest : List ℕ) (run : ProgressAt ended.taken rest whole)
+        → StopsBroken (reached ended.taken rest whole run)
+        → Closed (due_in (reached ended.taken rest whole run))
+        (closing_in (reached ended.taken rest whole run))
+        → EndsAs end (reached ended.taken rest whole run))
       where
-        broken_run : IsOver ghosts pipe.most first now f.source' ended.taken verdicts.Broken whole
-            last
-            → Wrote (whole ++ last) → Gives end
-        broken_run (inl (closes, at_end, some)) wrote =
+        with_run : (rest : List ℕ) (has : HasAnswered G first now ended.taken rest whole)
+            → last ≡ closing (output_of first.pipe.journal)
+            → StopsBroken (reached ended.taken rest whole has.progress) → Gives end
+        with_run rest has is stops =
+            by_run end ended rest whole has.progress (how rest has.progress stops
+            (subst (λ d. Closed d (closing (output_of first.pipe.journal))) has.progress.due_is
+            (subst (λ l. Closed whole l) is closed)))
+
+        broken_run : IsOver ghosts first.pipe.most first now f.source' ended.taken verdicts.Broken
+            whole last → Gives end
+        broken_run (inl (closes, at_end, some)) =
             let (is, (rest, more, none, has)) = closes in
-            by_run end ended rest whole has
-            (how rest ((more, inr at_end), none, some)
-            (subst (λ l. Wrote (whole ++ l)) (closing_is last is) wrote))
-        broken_run (inr (more, breaks, room)) wrote =
+            with_run rest has is ((more, inr at_end), none, some)
+        broken_run (inr (more, breaks, room)) =
             let (is_more, (is, (rest, hopeless, has))) = breaks in
-            by_run end ended rest whole has
-            (how rest (
+            with_run rest has is (
               (hopeless_some rest hopeless, inl hopeless),
               hopeless_none rest hopeless,
-              room_more more (length ended.taken) pipe.most is_more room,
+              room_more more (length ended.taken) first.pipe.most is_more room,
             )
-            (subst (λ l. Wrote (whole ++ l)) (closing_is last is) wrote))
 
-    over_run : (verdict : Verdict) (ended : Ended ghosts pipe.most first now f (ends.Over verdict))
+    over_run : (verdict : Verdict)
+        (ended : Ended ghosts first.pipe.most first now f (ends.Over verdict))
         (whole last : List ℕ)
-        → IsOver ghosts pipe.most first now f.source' ended.taken verdict whole last
+        → IsOver ghosts first.pipe.most first now f.source' ended.taken verdict whole last
         → Takes f.sink f.sink' (whole ++ last) → Gives (ends.Over verdict)
     over_run verdicts.Whole ended whole last (inl (closes, at_end, some)) wrote =
-        by_run (ends.Over verdicts.Whole) ended [] whole closes.1 (
+        by_run (ends.Over verdicts.Whole) ended [] whole closes.1.progress (
           at_end,
           refl,
           some,
-          subst (Takes f.sink f.sink') (ap (λ l. whole ++ l) closes.0 ∙ append-nil whole) wrote,
+          all_wrote ended.taken [] whole closes.1.progress
+              (subst (Takes f.sink f.sink') (ap (λ l. whole ++ l) closes.0 ∙ append-nil whole)
+              wrote),
         )
     over_run verdicts.Whole ended whole last (inr (more, breaks, room)) wrote = absurd breaks.1
     over_run verdicts.Broken ended whole last over wrote =
-        broken_run (ends.Over verdicts.Broken) ended whole last (Takes f.sink f.sink')
-        (λ rest stops closed. (stops, closed)) over wrote
+        broken_run (ends.Over verdicts.Broken) ended whole last
+        (λ due closing. Takes f.sink f.sink' (due ++ closing)) wrote
+        (λ rest run stops closed. (stops, closed)) over
 
-    part_run : (ended : Ended ghosts pipe.most first now f ends.WriteFault) (whole last : List ℕ)
-        (n : ℕ)
+    gave_run : (ended : Ended ghosts first.pipe.most first now f ends.WriteFault)
+        (whole last : List ℕ) (n : ℕ) → Gave G first now ended.taken whole last
+        → n ≤ length last → Takes f.sink f.sink' (whole ++ take n last) → Gives ends.WriteFault
+    gave_run ended whole last n (rest, inl has) le wrote =
+        by_run ends.WriteFault ended rest (whole ++ last) has.progress.progress
+        (n, inl (part_wrote ended.taken rest whole last n has.progress le wrote))
+    gave_run ended whole last n (rest, inr (has, (journal, no_bytes, no_whole, line))) le wrote =
+        by_run ends.WriteFault ended rest (whole ++ last) has.progress (
+          n,
+          inr (inl (
+            journal,
+            ap length no_bytes,
+            subst (λ l. n ≤ length l) line le,
+            subst (λ l. Takes f.sink f.sink' (take n l)) line
+                (subst (λ w. Takes f.sink f.sink' (w ++ take n last)) no_whole wrote),
+          )),
+        )
+
+    part_run : (ended : Ended ghosts first.pipe.most first now f ends.WriteFault)
+        (whole last : List ℕ) (n : ℕ)
         → ((verdict : Verdict)
-        × IsOver ghosts pipe.most first now f.source' ended.taken verdict whole last)
+        × IsOver ghosts first.pipe.most first now f.source' ended.taken verdict whole last)
         ⊎ Gave G first now ended.taken whole last
         → 0 < length last → n ≤ length last → Takes f.sink f.sink' (whole ++ take n last)
         → Gives ends.WriteFault
@@ -271,34 +315,53 @@ module _ {K : Type 0} (G : keepers.Ghosts K) where
     part_run ended whole last n (inl (verdicts.Whole, inr (more, breaks, room))) long le wrote =
         absurd breaks.1
     part_run ended whole last n (inl (verdicts.Broken, over)) long le wrote =
-        broken_run ends.WriteFault ended whole last (TakesFront f.sink f.sink')
-        (λ rest stops closed. inr (stops, closed)) over
-        (front_of f.sink f.sink' whole last n le wrote)
-    part_run ended whole last n (inr gave) long le wrote =
-        by_run ends.WriteFault ended gave.0 (whole ++ last) gave.1
-        (inl (front_of f.sink f.sink' whole last n le wrote))
+        broken_run ends.WriteFault ended whole last
+        (λ due closing. (n ≤ length closing) × Takes f.sink f.sink' (due ++ take n closing))
+        (le, wrote) (λ rest run stops closed. (n, inr (inr (stops, closed)))) over
+    part_run ended whole last n (inr gave) long le wrote = gave_run ended whole last n gave le wrote
 
-    pub run_of : (end : End) → Ended ghosts pipe.most first now f end → Gives end
-    run_of (ends.Over verdict) ended =
+    lacks_run : (ended : Ended ghosts first.pipe.most first now f ends.NoMemory) (due : List ℕ)
+        → Lacks G first now ended.taken due → Takes f.sink f.sink' due → Gives ends.NoMemory
+    lacks_run ended due (rest, inl has) wrote =
+        by_run ends.NoMemory ended rest due has.progress
+        (inl (all_wrote ended.taken rest due has.progress wrote))
+    lacks_run ended due (rest, inr (journal, (line, has))) wrote =
+        by_run ends.NoMemory ended rest (due ++ line) has.progress.progress (inr (
+          journal,
+          part_wrote ended.taken rest due line 0 has.progress (omega arith)
+              (subst (Takes f.sink f.sink') (sym (append-nil due)) wrote),
+        ))
+
+    ended_run : (end : End) → Ended ghosts first.pipe.most first now f end → Gives end
+    ended_run (ends.Over verdict) ended =
         over_run verdict ended ended.ends.0 ended.ends.1 ended.ends.2 ended.ends.3
-    run_of ends.ReadFault ended =
-        let (due, (rest, is, has), waits, some, wrote) = ended.ends in
-        by_run ends.ReadFault ended rest due
-        (due_of G first now ended.taken rest due waits.is_begun has)
-        (rest_waits now.stream.reader rest is waits.none, some, wrote)
-    run_of ends.WriteFault ended =
+    ended_run ends.ReadFault ended =
+        let (due, (rest, is, has, none), waits, some, wrote) = ended.ends in
+        let now_has = due_of G first now ended.taken rest due waits.is_begun has in
+        by_run ends.ReadFault ended rest due now_has.progress (
+          rest_waits now.stream.reader rest is waits.none,
+          some,
+          all_wrote ended.taken rest due now_has.progress wrote,
+        )
+    ended_run ends.WriteFault ended =
         let (whole, last, n, either, some, le, wrote) = ended.ends in
         part_run ended whole last n either some le wrote
-    run_of ends.NoMemory ended =
-        let (due, (rest, lacking, may, has), wrote) = ended.ends in
-        by_run ends.NoMemory ended rest (due ++ lacking) has (
-          due,
-          lacking,
-          refl,
-          subst (λ (p : Pipe). MayLack (output_of p.journal) lacking) is_pipe may,
-          wrote,
+    ended_run ends.NoMemory ended =
+        lacks_run ended ended.ends.0 ended.ends.1 ended.ends.2
+    ended_run ends.Long ended =
+        let (due, (rest, is, has, none), waits, all, wrote) = ended.ends in
+        let now_has = due_of G first now ended.taken rest due waits.is_begun has in
+        by_run ends.Long ended rest due now_has.progress (
+          rest_waits now.stream.reader rest is waits.none,
+          all,
+          all_wrote ended.taken rest due now_has.progress wrote,
         )
-    run_of ends.Long ended =
-        let (due, (rest, is, has), waits, all, wrote) = ended.ends in
-        by_run ends.Long ended rest due (due_of G first now ended.taken rest due waits.is_begun has)
-        (rest_waits now.stream.reader rest is waits.none, all, wrote)
+
+  pub run_of : (pipe : Pipe) (first now : Responder K) (f : Flow) → first.pipe ≡ pipe
+      → (end : End) → Ended ghosts pipe.most first now f end
+      → IsRun G.can_count pipe f (G.told now.desk.keeper) (G.count now.desk.keeper) end
+  run_of pipe first now f is_pipe end ended =
+      subst (λ (p : Pipe). IsRun G.can_count p f (G.told now.desk.keeper)
+      (G.count now.desk.keeper) end) is_pipe
+      (ended_run first now f end
+      (subst (λ (p : Pipe). Ended ghosts p.most first now f end) (sym is_pipe) ended))

@@ -98,8 +98,10 @@ draws_in-plain start step first k j (Fit r ∷ ms) (e ∷ es) is =
 -- ---- what a run writes
 
 pub journal_text-push : (place : ℕ) (list : List Entry) (e : Entry)
-    → journal_text newest place (list ++ e ∷ []) ≡ journal_text newest place list ++ entry_line newest e
+    → journal_text newest place (list ++ e ∷ [])
+    ≡ journal_text newest place list ++ entry_line newest e
 journal_text-push place list e =
     ap (λ t. head_line newest place ++ t) (flat_map-append (entry_line newest) list (e ∷ [])
     ∙ ap (λ t. flat_map (entry_line newest) list ++ t) (append-nil (entry_line newest e)))
-    ∙ sym (append_assoc (head_line newest place) (flat_map (entry_line newest) list) (entry_line newest e))
+    ∙ sym (append_assoc (head_line newest place) (flat_map (entry_line newest) list)
+    (entry_line newest e))

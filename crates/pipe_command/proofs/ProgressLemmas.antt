@@ -1,5 +1,5 @@
 -- A run goes on by one message.
-use Rattle.std.proofs.Common.{◌≡◌, ℕ, ◌+◌, List, [], ◌∷◌, ◌++◌, length, map, sym, ap, ◌∙◌, arith, append-nil, length-append}
+use Rattle.std.proofs.Common.{◌≡◌, ℕ, ◌+◌, List, [], ◌∷◌, ◌++◌, length, map, refl, sym, ap, ◌∙◌, arith, append-nil, length-append}
 use Rattle.std.proofs.lemmas.List.{map-append}
 use Rattle.asp_base.specs.Moments.{step_moment}
 use Rattle.asp_messages.specs.declared.request.Message.{Message}
@@ -23,7 +23,7 @@ use Rattle.pipe_command.specs.declared.pipe.Pipe.{Pipe}
 use Rattle.pipe_command.specs.declared.responder.Answer.{Answer}
 use Rattle.pipe_command.specs.Answering.{Answers, AnswersMessage, IfFit, IsAnswered, ServerState, due_for, entry_of}
 use Rattle.pipe_command.specs.PlainRun.{Asking, asking_of, askings, output_of, written_as}
-use Rattle.pipe_command.specs.Progress.{Progress, total_draws}
+use Rattle.pipe_command.specs.Progress.{Progress, ProgressLast, total_draws}
 use Rattle.pipe_command.proofs.PlainRunLemmas.{askings-push, draws_in-plain, written-unfit, written-fit, journal_text-push}
 
 pub fit_of_spelling : (front : List ℕ) (m : Message) → SpellsRequest front m → IfFit m RequestFits
@@ -86,12 +86,13 @@ module _ (CanCount : ℕ → Type 0) (pipe : Pipe) (bytes due front : List ℕ) 
         ∙ ap (step_moment pipe.start pipe.step) more
 
     goes_on-unfit : SpellsRequest front Unfit → Answers CanCount Unfit s s' answer
-        → Progress CanCount pipe bytes
-        (due ++ due_for (output_of pipe.journal) Unfit answer s'.desk.faults) s'
+        → ProgressLast CanCount pipe bytes due
+        (due_for (output_of pipe.journal) Unfit answer s'.desk.faults) s'
     goes_on-unfit spells one =
         let replied : AnswersMessage CanCount Unfit s s' answer = one.replies in
         let desk = rw (← replied.1) at run.desk in
-        record {
+        let next : Progress CanCount pipe bytes
+        (due ++ due_for (output_of pipe.journal) Unfit answer s'.desk.faults) s' = record {
           messages = run.messages ++ Unfit ∷ [];
           list = run.list;
           spelled =
@@ -109,13 +110,28 @@ module _ (CanCount : ℕ → Type 0) (pipe : Pipe) (bytes due front : List ℕ) 
           last_cookie = ap (λ k. k.cookies.last) replied.1 ∙ run.last_cookie;
           moment = clock-next Unfit one;
           step = one.ticks.step ∙ run.step;
+        } in
+        record {
+          progress = next;
+          parts = record {
+            heard = run.messages;
+            message = Unfit;
+            before = run.list;
+            own = [];
+            messages_are = refl;
+            list_is = sym (append-nil run.list);
+            plain = run.plain;
+            whole_is = run.due_is;
+            due_is = sym next.due_is;
+          };
         }
 
     goes_on-fit : (r : Request) → SpellsRequest front (Fit r) → Answers CanCount (Fit r) s s' answer
-        → Progress CanCount pipe bytes
-        (due ++ due_for (output_of pipe.journal) (Fit r) answer s'.desk.faults) s'
+        → ProgressLast CanCount pipe bytes due
+        (due_for (output_of pipe.journal) (Fit r) answer s'.desk.faults) s'
     goes_on-fit r spells one =
-        record {
+        let next : Progress CanCount pipe bytes
+        (due ++ due_for (output_of pipe.journal) (Fit r) answer s'.desk.faults) s' = record {
           messages = run.messages ++ Fit r ∷ [];
           list = run.list ++ entry_of r answer s'.desk.faults ∷ [];
           spelled =
@@ -137,6 +153,20 @@ module _ (CanCount : ℕ → Type 0) (pipe : Pipe) (bytes due front : List ℕ) 
           last_cookie = one.replies.last ∙ run.last_cookie;
           moment = clock-next (Fit r) one;
           step = one.ticks.step ∙ run.step;
+        } in
+        record {
+          progress = next;
+          parts = record {
+            heard = run.messages;
+            message = Fit r;
+            before = run.list;
+            own = entry_of r answer s'.desk.faults ∷ [];
+            messages_are = refl;
+            list_is = refl;
+            plain = run.plain;
+            whole_is = run.due_is;
+            due_is = sym next.due_is;
+          };
         }
       where
         stands : (answer.drawn ≡ draw_of pipe.first s.desk.cookies.last (draws_in run.list) r.ask)
@@ -169,8 +199,8 @@ pub goes_on : (CanCount : ℕ → Type 0) (pipe : Pipe) (bytes due front : List 
     (s s' : ServerState) (m : Message)
     (one : IsAnswered CanCount (output_of pipe.journal) Gives m s s') → SpellsRequest front m
     → Progress CanCount pipe bytes due (record s { held = front ++ s'.held })
-    → Progress CanCount pipe bytes
-    (due ++ due_for (output_of pipe.journal) m one.answer s'.desk.faults) s'
+    → ProgressLast CanCount pipe bytes due
+    (due_for (output_of pipe.journal) m one.answer s'.desk.faults) s'
 goes_on CanCount pipe bytes due front Gives s s' (Fit r) one spells run =
     goes_on-fit CanCount pipe bytes due front s s' one.answer run r spells one.answers
 goes_on CanCount pipe bytes due front Gives s s' Unfit one spells run =

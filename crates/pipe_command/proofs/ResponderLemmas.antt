@@ -3,7 +3,6 @@ use Rattle.std.proofs.Common.{◌≡◌, ℕ, ◌+◌, ◌<◌, Bool, true, fals
 use Rattle.std.specs.Prelude.{◌⊎◌, ◌≢◌, IsTrue, IsFalse, codes, ⊤}
 use Rattle.std.proofs.lemmas.Fmt.{decimal_digit}
 use Rattle.asp_messages.specs.declared.request.Message.{Message}
-use Rattle.asp_messages.specs.declared.request.Message.TheVariants.{Fit, Unfit}
 use Rattle.asp_messages.specs.RequestSpelling.{SpellsRequest}
 use Rattle.asp_messages.specs.Stream.{HasNoMessage, IsHopeless}
 use Rattle.asp_messages.proofs.RequestLemmas.{spelling_some}
@@ -15,13 +14,12 @@ use Rattle.stream_core.specs.Connection.{Connection}
 use Rattle.pipe_command.specs.declared.pipe.Output.{Output}
 use Rattle.pipe_command.specs.declared.pipe.Output.TheVariants as outputs
 use Rattle.pipe_command.specs.declared.pipe.Pipe.{Pipe}
-use Rattle.pipe_command.specs.declared.responder.Answer.{Answer}
 use Rattle.pipe_command.specs.declared.responder.Responder.{Responder}
-use Rattle.pipe_command.specs.Answering.{IsAnswered, due_for, entry_of}
-use Rattle.pipe_command.specs.PlainRun.{MayLack, output_of}
+use Rattle.pipe_command.specs.Answering.{IsAnswered, due_for}
+use Rattle.pipe_command.specs.PlainRun.{output_of}
 use Rattle.pipe_command.specs.Progress.{Progress}
 use Rattle.desk.specs.Standing.{state_of as desk_state}
-use Rattle.pipe_command.specs.Responding.{Gave, HasAnswered, IsRest, Keeps, Lacks, Waits, Went, given, owing, state_of, unbegun}
+use Rattle.pipe_command.specs.Responding.{Gave, HasAnswered, HasAnsweredLast, IsRest, IsUnbegun, Keeps, Lacks, Waits, Went, given, owing, state_of, unbegun}
 use Rattle.pipe_command.proofs.ProgressLemmas.{Progress-fed, goes_on}
 
 -- the first line of a journal from place 0
@@ -40,16 +38,11 @@ pub not_both : (b : Bool) → b ≡ false → b ≡ true → ⊥
 not_both true wrong right = cc
 not_both false wrong right = cc
 
--- nothing is lacking
-pub lacks_none : (output : Output) → MayLack output []
-lacks_none outputs.Replies = refl
-lacks_none outputs.Journal = inl refl
-
--- a line of a journal may be lacking
-line_lacks : (m : Message) (answer : Answer) (faults : ℕ)
-    → MayLack outputs.Journal (due_for outputs.Journal m answer faults)
-line_lacks (Fit r) answer faults = inr (entry_of r answer faults, refl)
-line_lacks Unfit answer faults = inl refl
+-- where the first line was given, nothing is asked of what came before
+pub begun_already : (begun journal : Bool) (bytes due : List ℕ) → IsTrue begun
+    → IsUnbegun begun journal bytes due
+begun_already true journal bytes due is = tt
+begun_already false journal bytes due is = cc
 
 -- ---- what is held
 
@@ -172,13 +165,13 @@ module _ {K : Type 0} (G : Ghosts K) (first : Responder K) where
       pub has_answered : (Gives : List ℕ → Type 0)
           (one : IsAnswered G.can_count (output_of mid.pipe.journal) Gives m (state_of G mid)
           (state_of G new))
-          → HasAnswered G first new bytes new.stream.reader.held
-          (due ++ due_for (output_of mid.pipe.journal) m one.answer (G.count new.desk.keeper))
+          → HasAnsweredLast G first new bytes new.stream.reader.held due
+          (due_for (output_of mid.pipe.journal) m one.answer (G.count new.desk.keeper))
       has_answered Gives = subst (λ (p : Pipe).
           (one : IsAnswered G.can_count (output_of p.journal) Gives m (state_of G mid)
           (state_of G new))
-          → HasAnswered G first new bytes new.stream.reader.held
-          (due ++ due_for (output_of p.journal) m one.answer (G.count new.desk.keeper)))
+          → HasAnsweredLast G first new bytes new.stream.reader.held due
+          (due_for (output_of p.journal) m one.answer (G.count new.desk.keeper)))
           (sym before.pipe)
           (λ one. record {
             pipe = keeps.pipe ∙ before.pipe;
@@ -196,44 +189,44 @@ module _ {K : Type 0} (G : Ghosts K) (first : Responder K) where
           → Lacks G first new bytes due
       lacks_line journal (inl same) = (
         rest,
-        [],
-        lacks_none (output_of first.pipe.journal),
-        same_rest new bytes rest rest due (due ++ []) refl (sym (append-nil due))
-            (of_same mid new bytes rest due (ap (λ (r : Responder K). r.pipe) same)
+        inl (of_same mid new bytes rest due (ap (λ (r : Responder K). r.pipe) same)
             (ap (λ (r : Responder K). r.desk) same) (ap (λ (r : Responder K). r.clock) same)
             (of_same old mid bytes rest due pipe desk clock has)),
       )
       lacks_line journal (inr one) =
-          let is : output_of mid.pipe.journal ≡ outputs.Journal = ap output_of journal in
-          let is_first : output_of first.pipe.journal ≡ outputs.Journal =
-          ap (λ (p : Pipe). output_of p.journal) (sym before.pipe) ∙ is in (
+          let is : output_of mid.pipe.journal ≡ outputs.Journal = ap output_of journal in (
             new.stream.reader.held,
-            due_for outputs.Journal m one.answer (G.count new.desk.keeper),
-            subst (λ o. MayLack o (due_for outputs.Journal m one.answer (G.count new.desk.keeper)))
-                (sym is_first) (line_lacks m one.answer (G.count new.desk.keeper)),
-            by_output outputs.Journal is one,
+            inr (
+              ap (λ (p : Pipe). p.journal) (sym before.pipe) ∙ journal,
+              (
+                due_for outputs.Journal m one.answer (G.count new.desk.keeper),
+                by_output outputs.Journal is one,
+              ),
+            ),
           )
         where
           by_output : (output : Output) → output_of mid.pipe.journal ≡ output
               → (one : IsAnswered G.can_count output (λ due. ⊤) m (state_of G mid) (state_of G new))
-              → HasAnswered G first new bytes new.stream.reader.held
-              (due ++ due_for output m one.answer (G.count new.desk.keeper))
+              → HasAnsweredLast G first new bytes new.stream.reader.held due
+              (due_for output m one.answer (G.count new.desk.keeper))
           by_output output is = subst (λ (o : Output).
               (one : IsAnswered G.can_count o (λ due. ⊤) m (state_of G mid) (state_of G new))
-              → HasAnswered G first new bytes new.stream.reader.held
-              (due ++ due_for o m one.answer (G.count new.desk.keeper))) is
+              → HasAnsweredLast G first new bytes new.stream.reader.held due
+              (due_for o m one.answer (G.count new.desk.keeper))) is
               (has_answered (λ due. ⊤))
 
   -- nothing was answered for want of memory
   pub lacks_all : (now : Responder K) (bytes rest due : List ℕ)
       → HasAnswered G first now bytes rest due
       → Lacks G first now bytes due
-  lacks_all now bytes rest due has = (
-    rest,
-    [],
-    lacks_none (output_of first.pipe.journal),
-    same_rest now bytes rest rest due (due ++ []) refl (sym (append-nil due)) has,
-  )
+  lacks_all now bytes rest due has = (rest, inl has)
+
+  -- the parts of what is due are forgotten
+  pub whole_of : (now : Responder K) (bytes rest whole last : List ℕ)
+      → HasAnsweredLast G first now bytes rest whole last
+      → HasAnswered G first now bytes rest (whole ++ last)
+  whole_of now bytes rest whole last has =
+      record { pipe = has.pipe; floor = has.floor; progress = has.progress.progress }
 
   -- what is due with the first line, where that was given before
   pub owed : (now : Responder K) (bytes rest due : List ℕ) → IsTrue now.is_begun
@@ -270,18 +263,20 @@ module _ {K : Type 0} (G : Ghosts K) (first : Responder K) where
           let all = has_answered old (record old { stream = taken }) new bytes went.0 due took.front
           m
           has_before refl refl refl parts_of.1 took.spells keeps (λ due. given new ≡ due) one in
-          let same : HasAnswered G first new bytes new.stream.reader.held (due ++ given new) =
-          subst (λ d. HasAnswered G first new bytes new.stream.reader.held (due ++ d))
+          let same : HasAnsweredLast G first new bytes new.stream.reader.held due (given new) =
+          subst (λ d. HasAnsweredLast G first new bytes new.stream.reader.held due d)
           (sym one.gives) all in
           let sound : IsFalse new.stream.reader.is_broken =
           ap (λ (h : Held). h.is_broken) keeps.reader ∙ took.whole ∙ parts_of.0 in (
             (
               new.stream.reader.held,
               inl (sound, refl),
-              owed new bytes new.stream.reader.held (due ++ given new) (keeps.is_begun
-                  ∙ begun) same,
+              owed new bytes new.stream.reader.held (due ++ given new) (keeps.is_begun ∙ begun)
+                  (whole_of new bytes new.stream.reader.held due (given new) same),
+              begun_already new.is_begun first.pipe.journal bytes (due ++ given new)
+                  (keeps.is_begun ∙ begun),
             ),
-            (new.stream.reader.held, same),
+            (new.stream.reader.held, inl same),
           )
 
       -- there was no memory to answer it, or for its line
@@ -300,9 +295,12 @@ module _ {K : Type 0} (G : Ghosts K) (first : Responder K) where
       → IsFalse old.is_begun → IsTrue new.is_begun → given new ≡ journal_text newest 0 [] ++ []
       → Went G first old bytes due
       → Went G first new bytes (due ++ given new) × Gave G first new bytes due (given new)
-  begin_did old new bytes due pipe desk clock stream owes begun gives (rest, is, has) =
+  begin_did old new bytes due pipe desk clock stream owes begun gives (rest, is, has, none) =
+      let first_line = gives ∙ append-nil (journal_text newest 0 []) in
+      let (journal, no_bytes, no_due) =
+      subst (λ b. IsUnbegun b first.pipe.journal bytes due) owes none in
       let line : due ++ journal_text newest 0 [] ≡ due ++ given new =
-      ap (λ l. due ++ l) (sym (gives ∙ append-nil (journal_text newest 0 []))) in
+      ap (λ l. due ++ l) (sym first_line) in
       let now : HasAnswered G first new bytes rest (due ++ given new) =
       of_same old new bytes rest (due ++ given new) pipe desk clock
       (same_rest old bytes rest rest (owing old.is_begun due) (due ++ given new) refl
@@ -311,8 +309,9 @@ module _ {K : Type 0} (G : Ghosts K) (first : Responder K) where
           rest,
           subst (λ (s : Connection). IsRest s.reader rest) (sym stream) is,
           owed new bytes rest (due ++ given new) begun now,
+          begun_already new.is_begun first.pipe.journal bytes (due ++ given new) begun,
         ),
-        (rest, now),
+        (rest, inr (now, (journal, no_bytes, no_due, first_line))),
       )
 
   -- ---- the calls of the loop
@@ -334,6 +333,7 @@ module _ {K : Type 0} (G : Ghosts K) (first : Responder K) where
         fed_rest old.stream.reader new.stream.reader went.0 piece is (waits.whole refl) went.1,
         owed new (bytes ++ piece) (went.0 ++ piece) due (begun ∙ waits.is_begun)
             (has_fed new bytes went.0 due piece (has_now waits.is_begun)),
+        begun_already new.is_begun first.pipe.journal (bytes ++ piece) due (begun ∙ waits.is_begun),
       )
 
       -- there was no memory for a piece
@@ -349,6 +349,7 @@ module _ {K : Type 0} (G : Ghosts K) (first : Responder K) where
         went.0,
         waiting_rest old.stream.reader new.stream.reader went.0 is went.1,
         owed new bytes went.0 due (same ∙ begun) (has_now begun),
+        begun_already new.is_begun first.pipe.journal bytes due (same ∙ begun),
       )
 
       -- there was no memory for a message
@@ -366,6 +367,7 @@ module _ {K : Type 0} (G : Ghosts K) (first : Responder K) where
             broken_rest new.stream.reader went.0 is
                 (rest_hopeless old.stream.reader went.0 went.1 hopeless),
             owed new bytes went.0 due (same ∙ begun) (has_now begun),
+            begun_already new.is_begun first.pipe.journal bytes due (same ∙ begun),
           )
 
           -- or more could follow

@@ -1,6 +1,6 @@
 -- A plain run: what the messages of a stream ask of the session machine, and what is written for
 -- them. Nothing here depends on how the bytes were cut.
-use Rattle.std.specs.Prelude.{◌≡◌, ◌⊎◌, ℕ, ◌+◌, List, [], ◌∷◌, ◌++◌, map, Bool, true, false}
+use Rattle.std.specs.Prelude.{◌≡◌, ℕ, ◌+◌, List, [], ◌∷◌, ◌++◌, map, Bool, true, false}
 use Rattle.asp_base.specs.Moments.{step_moment}
 use Rattle.asp_messages.specs.declared.request.Message.{Message}
 use Rattle.asp_messages.specs.declared.request.Message.TheVariants.{Fit, Unfit}
@@ -9,10 +9,11 @@ use Rattle.asp_messages.specs.Fields.{most_cookie}
 use Rattle.asp_messages.specs.ReplyText.{reply_text}
 use Rattle.desk.specs.Draws.{draws, draw_of}
 use Rattle.session_machine.specs.Profiles.{newest}
-use Rattle.journal_text.specs.JournalText.{entry_line, journal_text}
+use Rattle.journal_text.specs.JournalText.{journal_text}
 use Rattle.session_machine.specs.declared.entry.Entry.{Entry}
 use Rattle.session_machine.specs.declared.entry.Deed.{Deed}
 use Rattle.session_machine.specs.declared.entry.Deed.TheVariants.{Asked}
+use Rattle.pipe_command.specs.declared.pipe.Pipe.{Pipe}
 use Rattle.pipe_command.specs.declared.pipe.Output.{Output}
 use Rattle.pipe_command.specs.declared.pipe.Output.TheVariants.{Replies, Journal}
 
@@ -61,7 +62,16 @@ abbrev pub closing : Output → List ℕ
 closing Replies = reply_text Bad
 closing Journal = []
 
--- what a run may leave out for want of memory: the last line of a journal
-abbrev pub MayLack : Output → List ℕ → Type 0
-MayLack Replies line = line ≡ []
-MayLack Journal line = (line ≡ []) ⊎ ((e : Entry) × (line ≡ entry_line newest e))
+-- What is due for the messages is in two parts: whole for those before the last, and last for that
+-- one (its reply, or its entry's line).
+pub record SplitsAtLast (pipe : Pipe) (ms : List Message) (list : List Entry) (whole last : List ℕ)
+    : Type 0 where
+  pub heard : List Message
+  pub message : Message
+  pub before : List Entry
+  pub own : List Entry
+  pub messages_are : ms ≡ heard ++ message ∷ []
+  pub list_is : list ≡ before ++ own
+  pub plain : IsPlainRun pipe.start pipe.step pipe.first heard before
+  pub whole_is : whole ≡ written_as (output_of pipe.journal) heard before
+  pub due_is : written_as (output_of pipe.journal) ms list ≡ whole ++ last

@@ -1,5 +1,5 @@
 -- Inside a run: where it stands between two messages.
-use Rattle.std.specs.Prelude.{◌≡◌, ℕ, ◌+◌, List, [], ◌∷◌, length}
+use Rattle.std.specs.Prelude.{◌≡◌, ℕ, ◌+◌, List, [], ◌∷◌, ◌++◌, length}
 use Rattle.asp_base.specs.Moments.{step_moment}
 use Rattle.asp_messages.specs.declared.request.Message.{Message}
 use Rattle.asp_messages.specs.declared.request.Message.TheVariants.{Fit, Unfit}
@@ -11,7 +11,7 @@ use Rattle.desk.specs.Standing.{DeskStandsFor}
 use Rattle.session_machine.specs.declared.entry.Entry.{Entry}
 use Rattle.session_machine.specs.History.{nothing}
 use Rattle.pipe_command.specs.declared.pipe.Pipe.{Pipe}
-use Rattle.pipe_command.specs.PlainRun.{IsPlainRun, output_of, written_as}
+use Rattle.pipe_command.specs.PlainRun.{IsPlainRun, SplitsAtLast, output_of, written_as}
 use Rattle.pipe_command.specs.Answering.{ServerState}
 
 -- how many cookies the messages draw
@@ -33,3 +33,9 @@ pub record Progress (CanCount : ℕ → Type 0) (pipe : Pipe) (bytes due : List 
   pub last_cookie : s.desk.cookies.last ≡ most_cookie
   pub moment : s.clock.next ≡ step_moment pipe.start pipe.step (length messages)
   pub step : s.clock.step ≡ pipe.step
+
+-- The same, and what is due is in two parts: for the messages before the last, and for the last.
+pub record ProgressLast (CanCount : ℕ → Type 0) (pipe : Pipe) (bytes whole last : List ℕ)
+    (s : ServerState) : Type 0 where
+  pub progress : Progress CanCount pipe bytes (whole ++ last) s
+  pub parts : SplitsAtLast pipe progress.messages progress.list whole last

@@ -1,5 +1,5 @@
 -- A responder as a consumer of the loop.
-use Rattle.std.specs.Prelude.{◌≡◌, ◌≢◌, ◌⊎◌, ℕ, Bool, true, false, List, [], ◌++◌, IsTrue, IsFalse}
+use Rattle.std.specs.Prelude.{◌≡◌, ◌≢◌, ◌⊎◌, ℕ, Bool, true, false, List, [], ◌++◌, IsTrue, IsFalse, ⊤}
 use Rattle.asp_messages.specs.RequestSpelling.{SpellsRequest}
 use Rattle.asp_messages.specs.Stream.{HasNoMessage, IsHopeless}
 use Rattle.session_machine.specs.Profiles.{newest}
@@ -15,8 +15,8 @@ use Rattle.pipe_command.specs.declared.responder.Answer.{Answer}
 use Rattle.pipe_command.specs.declared.pipe.Output.{Output}
 use Rattle.pipe_command.specs.Answering.{ServerState, Answers, IsAnswered}
 use Rattle.pipe_command.specs.Giving.{given_body, given_head}
-use Rattle.pipe_command.specs.PlainRun.{MayLack, closing, output_of}
-use Rattle.pipe_command.specs.Progress.{Progress}
+use Rattle.pipe_command.specs.PlainRun.{closing, output_of}
+use Rattle.pipe_command.specs.Progress.{Progress, ProgressLast}
 
 -- what was given last
 abbrev pub given : {K : Type 0} → Responder K → List ℕ
@@ -32,6 +32,16 @@ IsRest reader rest = (IsFalse reader.is_broken × (rest ≡ reader.held))
 abbrev pub owing : Bool → List ℕ → List ℕ
 owing true due = due
 owing false due = due ++ journal_text newest 0 []
+
+-- where the first line of a journal was not given yet, nothing was taken or given
+abbrev pub IsUnbegun : Bool → Bool → List ℕ → List ℕ → Type 0
+IsUnbegun true journal bytes due = ⊤
+IsUnbegun false journal bytes due = IsTrue journal × (bytes ≡ []) × (due ≡ [])
+
+-- the first line of a journal was given before anything was taken
+abbrev pub GaveFirstLine : Bool → List ℕ → List ℕ → List ℕ → Type 0
+GaveFirstLine journal bytes whole last =
+    IsTrue journal × (bytes ≡ []) × (whole ≡ []) × (last ≡ journal_text newest 0 [])
 
 -- one thing to do, where the first line of a journal was not given yet
 abbrev pub unbegun : Bool → ℕ
@@ -80,15 +90,26 @@ module _ {K : Type 0} (G : Ghosts K) where
     pub floor : G.floor now.desk.keeper ≡ G.floor first.desk.keeper
     pub progress : Progress G.can_count first.pipe bytes due (record (state_of now) { held = rest })
 
+  -- The same, and what is due is in two parts: for the messages before the last, and for the last.
+  pub record HasAnsweredLast (first now : Responder K) (bytes rest whole last : List ℕ) : Type 0
+    where
+      pub pipe : now.pipe ≡ first.pipe
+      pub floor : G.floor now.desk.keeper ≡ G.floor first.desk.keeper
+      pub progress : ProgressLast G.can_count first.pipe bytes whole last
+          (record (state_of now) { held = rest })
+
   -- ---- the consumer
 
   abbrev pub Went : Responder K → Responder K → List ℕ → List ℕ → Type 0
   Went first now bytes due = (rest : List ℕ) × IsRest now.stream.reader rest
       × HasAnswered first now bytes rest (owing now.is_begun due)
+      × IsUnbegun now.is_begun first.pipe.journal bytes due
 
   abbrev pub Gave : Responder K → Responder K → List ℕ → List ℕ → List ℕ → Type 0
-  Gave first now bytes whole last =
-      (rest : List ℕ) × HasAnswered first now bytes rest (whole ++ last)
+  Gave first now bytes whole last = (rest : List ℕ)
+      × (HasAnsweredLast first now bytes rest whole last
+      ⊎ (HasAnswered first now bytes rest (whole ++ last)
+      × GaveFirstLine first.pipe.journal bytes whole last))
 
   -- the rest can become no message
   abbrev pub Breaks : Verdict → Responder K → Responder K → List ℕ → List ℕ → List ℕ → Type 0
@@ -103,8 +124,8 @@ module _ {K : Type 0} (G : Ghosts K) where
       × ((rest : List ℕ) × (rest ≢ []) × HasNoMessage SpellsRequest rest
       × HasAnswered first now bytes rest whole)
 
-  -- a journal's last line may lack
+  -- all that is due was given, or, in a journal, all but the last line
   abbrev pub Lacks : Responder K → Responder K → List ℕ → List ℕ → Type 0
-  Lacks first now bytes due = (rest : List ℕ) × (lacking : List ℕ)
-      × MayLack (output_of first.pipe.journal) lacking
-      × HasAnswered first now bytes rest (due ++ lacking)
+  Lacks first now bytes due = (rest : List ℕ) × (HasAnswered first now bytes rest due
+      ⊎ (IsTrue first.pipe.journal × ((line : List ℕ)
+      × HasAnsweredLast first now bytes rest due line)))

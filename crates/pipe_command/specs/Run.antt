@@ -1,7 +1,7 @@
 -- A run of `pipe`, from the bytes that were taken to those that were written.
-use Rattle.std.specs.Prelude.{◌⊎◌, ◌≢◌, ◌≡◌, ℕ, ◌<◌, ◌≤◌, ◌^◌, List, [], ◌++◌, length, Option, Some, None, ⊤}
+use Rattle.std.specs.Prelude.{◌⊎◌, ◌≢◌, ◌≡◌, ℕ, ◌<◌, ◌≤◌, ◌^◌, List, [], ◌++◌, length, take, Option, Some, None, IsTrue, ⊤}
 use Rattle.std.specs.List.{AllByRecursion}
-use Rattle.asp_base.specs.Outside.{Gives, IsAtEnd, Takes, TakesFront}
+use Rattle.asp_base.specs.Outside.{Gives, IsAtEnd, Takes}
 use Rattle.asp_messages.specs.declared.request.Message.{Message}
 use Rattle.asp_messages.specs.RequestSpelling.{SpellsRequest}
 use Rattle.asp_messages.specs.Stream.{Spelled, HasNoMessage, IsHopeless}
@@ -10,12 +10,13 @@ use Rattle.keeper.specs.Items.{NeverCounts}
 use Rattle.session_machine.specs.declared.entry.Entry.{Entry}
 use Rattle.session_machine.specs.declared.item.Item.{Item}
 use Rattle.session_machine.specs.History.{nothing}
+use Rattle.session_machine.specs.Profiles.{newest}
+use Rattle.journal_text.specs.JournalText.{journal_text}
 use Rattle.shard_core.specs.Standing.{StandsFor}
 use Rattle.pipe_command.specs.declared.pipe.Pipe.{Pipe}
-use Rattle.pipe_command.specs.declared.pipe.Output.{Output}
 use Rattle.pipe_command.specs.declared.pipe.Verdict.{Verdict}
 use Rattle.pipe_command.specs.declared.pipe.Verdict.TheVariants.{Whole, Broken}
-use Rattle.pipe_command.specs.PlainRun.{IsPlainRun, output_of, written_as, closing, MayLack}
+use Rattle.pipe_command.specs.PlainRun.{IsPlainRun, SplitsAtLast, output_of, written_as, closing}
 use Rattle.stream_run.specs.declared.ending.End as run
 use Rattle.stream_run.specs.declared.ending.End.TheVariants.{Over, ReadFault, WriteFault, NoMemory, Long}
 use Rattle.stream_run.specs.Flow.{Flow}
@@ -38,40 +39,64 @@ pub record PipeFits (pipe : Pipe) : Type 0 where
 abbrev pub IsBroken : Option (List ℕ × List ℕ) → List ℕ → Type 0
 IsBroken source' rest = (rest ≢ []) × (IsHopeless SpellsRequest rest ⊎ IsAtEnd source')
 
--- Where a run stood when it ended: what it writes, the flow of its bytes, the rest that is no whole
--- message, how many bytes were taken of the most, and the bytes that are due for the messages
--- before the rest (replies, or a journal).
+-- Where a run stood when it ended: what it was told, the flow of its bytes, the messages that were
+-- answered and their entries, the rest that is no whole message, and how many bytes were taken.
 pub record Reached : Type 0 where
-  pub output : Output
+  pub pipe : Pipe
   pub flow : Flow
+  pub messages : List Message
+  pub list : List Entry
   pub rest : List ℕ
   pub count : ℕ
-  pub most : ℕ
-  pub due : List ℕ
 
--- the sink took these bytes, or a front of them
+-- the bytes that are due for the messages: replies, or a journal
+abbrev pub due_in : Reached → List ℕ
+due_in r = written_as (output_of r.pipe.journal) r.messages r.list
+
+-- the bytes that are due behind them for a rest that is no whole messages
+abbrev pub closing_in : Reached → List ℕ
+closing_in r = closing (output_of r.pipe.journal)
+
+-- the sink took these bytes
 abbrev pub Wrote : Reached → List ℕ → Type 0
 Wrote r bytes = Takes r.flow.sink r.flow.sink' bytes
 
-abbrev pub WroteFront : Reached → List ℕ → Type 0
-WroteFront r bytes = TakesFront r.flow.sink r.flow.sink' bytes
+-- Of what is due for the last message the sink took so many bytes: its reply, or its entry's line.
+-- What is due for the messages before it was written whole.
+pub record WroteInPart (r : Reached) (count : ℕ) : Type 0 where
+  pub whole : List ℕ
+  pub last : List ℕ
+  pub splits : SplitsAtLast r.pipe r.messages r.list whole last
+  pub part : count ≤ length last
+  pub took : Wrote r (whole ++ take count last)
+
+-- before anything was read, the sink took so many bytes of a journal's first line
+abbrev pub WroteFirstInPart : Reached → ℕ → Type 0
+WroteFirstInPart r count = IsTrue r.pipe.journal × (r.count ≡ 0)
+    × (count ≤ length (journal_text newest 0 [])) × Wrote r (take count (journal_text newest 0 []))
+
+-- the sink took all that is due for the messages, and so many bytes of the closing behind it
+abbrev pub WroteClosingInPart : Reached → ℕ → Type 0
+WroteClosingInPart r count =
+    (count ≤ length (closing_in r)) × Wrote r (due_in r ++ take count (closing_in r))
 
 -- the rest is none, and the most bytes were not taken
 abbrev pub StopsBroken : Reached → Type 0
 StopsBroken r =
-    IsBroken r.flow.source' r.rest × HasNoMessage SpellsRequest r.rest × (r.count < r.most)
+    IsBroken r.flow.source' r.rest × HasNoMessage SpellsRequest r.rest × (r.count < r.pipe.most)
 
--- What holds at each ending.
+-- What holds at each ending. Where memory was wanting, all that is due was written, or, in a
+-- journal, all but the last entry's line.
 abbrev pub EndsAs : End → Reached → Type 0
 EndsAs (Over Whole) r =
-    IsAtEnd r.flow.source' × (r.rest ≡ []) × (r.count < r.most) × Wrote r r.due
-EndsAs (Over Broken) r = StopsBroken r × Wrote r (r.due ++ closing r.output)
-EndsAs ReadFault r = HasNoMessage SpellsRequest r.rest × (r.count < r.most) × Wrote r r.due
-EndsAs WriteFault r =
-    WroteFront r r.due ⊎ (StopsBroken r × WroteFront r (r.due ++ closing r.output))
-EndsAs NoMemory r = (shown : List ℕ) × (lacking : List ℕ) × (r.due ≡ shown ++ lacking)
-    × MayLack r.output lacking × Wrote r shown
-EndsAs Long r = HasNoMessage SpellsRequest r.rest × (r.count ≡ r.most) × Wrote r r.due
+    IsAtEnd r.flow.source' × (r.rest ≡ []) × (r.count < r.pipe.most) × Wrote r (due_in r)
+EndsAs (Over Broken) r = StopsBroken r × Wrote r (due_in r ++ closing_in r)
+EndsAs ReadFault r =
+    HasNoMessage SpellsRequest r.rest × (r.count < r.pipe.most) × Wrote r (due_in r)
+EndsAs WriteFault r = (n : ℕ) × (WroteInPart r n ⊎ (WroteFirstInPart r n
+    ⊎ (StopsBroken r × WroteClosingInPart r n)))
+EndsAs NoMemory r = Wrote r (due_in r) ⊎ (IsTrue r.pipe.journal × WroteInPart r 0)
+EndsAs Long r = HasNoMessage SpellsRequest r.rest × (r.count ≡ r.pipe.most) × Wrote r (due_in r)
 
 -- the exit status of what was found
 abbrev pub verdict_number : Verdict → ℕ
@@ -93,10 +118,10 @@ NeverFails CanCount None list = ⊤
 NeverFails CanCount (Some items) list = NeverCounts CanCount → NeverFaults list
 
 -- A run: the bytes taken, at most the most, are messages and a rest; the entries are a plain run of
--- the messages; the keeper that is handed back has the items and the count after them; locks hold
--- what they give; and the replies, or the journal, were written as the ending says. (CanCount says
--- which counts of faults the keeper's type can have; told and faults are what the keeper tells and
--- counts after the run.)
+-- the messages; each entry has its cause, and the keeper that is handed back has the items and the
+-- count after them; locks hold what they give; and the replies, or the journal, were written as the
+-- ending says. (CanCount says which counts of faults the keeper's type can have; told and faults
+-- are what the keeper tells and counts after the run.)
 pub record IsRun (CanCount : ℕ → Type 0) (pipe : Pipe) (f : Flow)
     (told : Option (List ℕ → Option Item)) (faults : ℕ) (end : End) : Type 0 where
   pub bytes : List ℕ
@@ -112,12 +137,12 @@ pub record IsRun (CanCount : ℕ → Type 0) (pipe : Pipe) (f : Flow)
   pub locks : TellsLocks told list
   pub no_faults : NeverFails CanCount told list
   pub ends : EndsAs end (record {
-    output = output_of pipe.journal;
+    pipe = pipe;
     flow = f;
+    messages = messages;
+    list = list;
     rest = rest;
     count = length bytes;
-    most = pipe.most;
-    due = written_as (output_of pipe.journal) messages list;
   })
 
 -- the input is whole messages of fewer than so many bytes

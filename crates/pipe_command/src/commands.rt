@@ -1,5 +1,5 @@
 //! The top call of a command line.
-ghost use Rattle.std.specs.Prelude.{◌≡◌, ◌↔◌, None, IfSome, map, string_bytes};
+ghost use Rattle.std.specs.Prelude.{◌≡◌, ◌↔◌, ◌≤◌, None, IfSome, map, string_bytes};
 ghost use Rattle.asp_base.specs.Causes.{Rose};
 ghost use Rattle.keeper.specs.Items.{IsEmptyTold};
 ghost use Rattle.stream_run.specs.Flow.{flow};
@@ -39,6 +39,8 @@ pub fn command<S: Source, T: Sink, K: Keeper>(
         → (source.new ≡ source.old) × (sink.new ≡ sink.old) × (result.keeper ≡ keeper) }
     ensures read { result.status ≡ 4 → Rose (S.faults source.old) (S.faults source.new) }
     ensures write { result.status ≡ 5 → Rose (T.faults sink.old) (T.faults sink.new) }
+    ensures source_count { S.faults source.old ≤ S.faults source.new }
+    ensures sink_count { T.faults sink.old ≤ T.faults sink.new }
 
     // What the command that the words say does: to the source, the sink and the keeper.
     ensures does { IfSome (command_of (map string_bytes words.now)) (Does ⟦<K as Keeper>⟧ (record {

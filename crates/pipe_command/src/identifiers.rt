@@ -1,5 +1,5 @@
 //! The command `id`.
-ghost use Rattle.std.specs.Prelude.{◌≡◌, ◌++◌, ◌∷◌, []};
+ghost use Rattle.std.specs.Prelude.{◌≡◌, ◌≤◌, ◌++◌, ◌∷◌, []};
 ghost use Rattle.asp_base.specs.Causes.{Rose};
 ghost use Rattle.session_id.specs.Identifiers.{text_of};
 ghost use Rattle.pipe_command.specs.Commands.{WritesLine};
@@ -14,6 +14,7 @@ pub fn write_id<T: Sink>(random: [u8; 15], sink: &mut T) -> u8
     ensures writes { WritesLine result (T.taken sink.old) (T.taken sink.new)
         (text_of random ++ 10 ∷ []) }
     ensures fault { result ≡ 5 → Rose (T.faults sink.old) (T.faults sink.new) }
+    ensures sink_count { T.faults sink.old ≤ T.faults sink.new }
 {
     let text = Id::from_random(random).text();
     match write_text(sink, &mut Text::new(), &text, b"\n") {

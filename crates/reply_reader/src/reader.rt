@@ -127,6 +127,7 @@ impl ReplyReader {
     pub fn next(&mut self) -> ReplyNext
         ensures message { IfMessage result (TakesMessage SpellsReply self.old.bytes
             self.new.bytes) }
+        ensures forgotten { IfMessage result (λ _. self.new.spent ≡ 0) }
 
         // No message is whole, and there is room for more bytes.
         ensures more { result ≡ ReplyNext.More → self.new.bytes ≡ waiting self.old.bytes }

@@ -117,6 +117,7 @@ impl RequestReader {
     /// own.
     pub fn next(&mut self) -> Next
         ensures message { IfNext result (TakesMessage SpellsRequest self.old.bytes self.new.bytes) }
+        ensures forgotten { IfNext result (λ _. self.new.spent ≡ 0) }
 
         // No message is whole, and there is room for more bytes.
         ensures more { result ≡ Next.More → self.new.bytes ≡ waiting self.old.bytes }

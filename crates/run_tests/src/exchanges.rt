@@ -165,19 +165,62 @@ fn requests_are_answered_in_order(rt: HostRuntime) -> Result<(), Fail> {
                 .as_slice(),
             "done\nfound 0 525600 0 x\n",
         ),
+        // One day after it was made an item is gone, whatever touched or locked it since.
+        (
+            43_200_000,
+            1,
+            b"PUT /a HTTP/1.1\r\nTimeout: 525600\r\nContent-Length: 1\r\n\r\n\
+            xGET /a HTTP/1.1\r\n\r\nGET /a HTTP/1.1\r\n\r\n"
+                .as_slice(),
+            "done\nfound 0 525600 0 x78\nmissing\n",
+        ),
+        (
+            43_199_999,
+            1,
+            b"PUT /a HTTP/1.1\r\nTimeout: 525600\r\nContent-Length: 1\r\n\r\n\
+            xGET /a HTTP/1.1\r\n\r\nGET /a HTTP/1.1\r\n\r\n"
+                .as_slice(),
+            "done\nfound 0 525600 0 x78\nfound 0 525600 0 x78\n",
+        ),
+        (
+            43_200_000,
+            1,
+            b"PUT /a HTTP/1.1\r\nTimeout: 525600\r\nContent-Length: 1\r\n\r\n\
+            xGET /a HTTP/1.1\r\nExclusive: acquire\r\n\r\nPUT /a HTTP/1.1\r\n\
+            LockCookie: 1\r\nContent-Length: 1\r\n\r\ny"
+                .as_slice(),
+            "done\nfound 1 525600 0 x78\nmissing\n",
+        ),
     ] {
         let pipe = Pipe {
             step,
             first,
             ..PIPE
         };
-        for piece in [1, 16_384] {
+        for piece in [1, 2, 3, 16_384] {
             let (status, output) = run_text(alloc, pipe, text, piece)?;
             let lines = spelled(alloc, output.taken())?;
             assert_eq!(rt; status, 0, "the exchange that ends {replies}");
             assert_eq!(rt; lines.as_slice(), replies.as_bytes(), "wanted {replies}");
         }
     }
+    Ok(())
+}
+
+#[test]
+fn a_lock_in_the_way_is_told_with_the_moment_of_its_acquisition(
+    rt: HostRuntime,
+) -> Result<(), Fail> {
+    let alloc = rt.alloc();
+    let mut text = Vec::from_slice(alloc, HELD)?;
+    text.extend_from_slice(b"GET /a HTTP/1.1\r\nExclusive: acquire\r\n\r\n")?;
+    text.extend_from_slice(b"GET /a HTTP/1.1\r\n\r\n")?;
+    let (status, output) = run_text(alloc, PIPE, &text, 16_384)?;
+    let last = b"HTTP/1.1 423 Locked\r\nLockCookie: 1\r\nLockAge: 2\r\nLockDate: 1000\r\n\
+        Content-Length: 0\r\n\r\n"
+        .as_slice();
+    assert_eq!(rt; status, 0);
+    assert!(rt; output.taken().ends_with(last));
     Ok(())
 }
 

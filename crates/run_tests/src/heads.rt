@@ -50,6 +50,21 @@ fn a_head_at_its_limits_is_read_and_beyond_them_is_none(rt: HostRuntime) -> Resu
             3,
             "bad\n",
         ),
+        (
+            with_length(alloc, b"Content-Length: 0\r\nContent-Length: 0")?,
+            3,
+            "bad\n",
+        ),
+        (
+            with_length(alloc, b"Content-Length: 0\r\nContent-Length: 1")?,
+            3,
+            "bad\n",
+        ),
+        (
+            with_length(alloc, b"Content-Length: 1\r\nContent-Length: 0")?,
+            3,
+            "bad\n",
+        ),
         (with_length(alloc, b"Content-Length:")?, 3, "bad\n"),
         (with_length(alloc, b"Content-Length: +1")?, 3, "bad\n"),
         (

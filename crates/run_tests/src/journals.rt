@@ -16,7 +16,7 @@ const TRACE: Pipe = Pipe {
     ..PIPE
 };
 
-const HEAD: &[u8] = b"asp-journal 1 0\n";
+const HEAD: &[u8] = b"asp-journal 3 0\n";
 
 #[test]
 fn requests_have_their_lines(rt: HostRuntime) -> Result<(), Fail> {
@@ -28,6 +28,18 @@ fn requests_have_their_lines(rt: HostRuntime) -> Result<(), Fail> {
             0,
             b"0 0 0 0 x2f61 write 0 20 0 x78 : done\n\
             0 1000 0 0 x2f61 read : found 0 20 0 x78\n"
+                .as_slice(),
+        ),
+        // A read that is refused or finds nothing tells of no acquire and of no removal.
+        (
+            b"GET /b HTTP/1.1\r\n\r\nPUT /b HTTP/1.1\r\n\r\nGET /b HTTP/1.1\r\n\
+            Exclusive: acquire\r\n\r\nGET /b HTTP/1.1\r\n\r\nDELETE /b HTTP/1.1\r\n\r\n"
+                .as_slice(),
+            0,
+            b"0 0 0 0 x2f62 read : missing\n0 1000 0 0 x2f62 write 0 20 0 x : done\n\
+            0 2000 0 1 x2f62 acquire : found 1 20 0 x\n\
+            0 3000 0 0 x2f62 read : locked 1 1 2000\n\
+            0 4000 0 0 x2f62 remove 0 : locked 1 2 2000\n"
                 .as_slice(),
         ),
         (
@@ -111,17 +123,27 @@ fn a_traced_load_is_judged_legal(rt: HostRuntime) -> Result<(), Fail> {
     Ok(())
 }
 
+/// A write, an acquire, and a write over the lock, in a journal of either spelling.
+const OVER_A_LOCK: &[u8] =
+    b"0 0 0 0 x2f61 write 0 20 0 x78 : done\n0 1000 0 1 x2f61 acquire : found 1 20 0 x78\n\
+    0 2000 0 0 x2f61 write 0 20 0 x79 : done\n";
+
 #[test]
 fn a_write_over_a_lock_is_judged_illegal(rt: HostRuntime) -> Result<(), Fail> {
     let alloc = rt.alloc();
-    let lines =
-        b"0 0 0 0 x2f61 write 0 20 0 x78 : done\n0 1000 0 1 x2f61 acquire : found 1 20 0 x78\n\
-        0 2000 0 0 x2f61 write 0 20 0 x79 : done\n";
-    let (status, verdict) = replay(alloc, joined(alloc, HEAD, lines)?.as_slice())?;
-    assert_eq!(rt; status, 8);
-    assert_eq!(rt;
-        verdict.taken(),
-        b"place 2 expected locked 1 1 found done\n".as_slice()
-    );
+    for (head, line) in [
+        (
+            b"asp-journal 1 0\n".as_slice(),
+            b"place 2 expected locked 1 1 found done\n".as_slice(),
+        ),
+        (
+            HEAD,
+            b"place 2 expected locked 1 1 1000 found done\n".as_slice(),
+        ),
+    ] {
+        let (status, verdict) = replay(alloc, joined(alloc, head, OVER_A_LOCK)?.as_slice())?;
+        assert_eq!(rt; status, 8);
+        assert_eq!(rt; verdict.taken(), line);
+    }
     Ok(())
 }

@@ -28,15 +28,16 @@ const GRANTED_1: &str =
 const GRANTED_2: &str =
     "HTTP/1.1 200 OK\r\nTimeout: 20\r\nLockCookie: 2\r\nContent-Length: 1\r\n\r\nx";
 
-/// A lock in the way: by its cookie, and its age in seconds.
-const LOCKED_1_1: &str =
-    "HTTP/1.1 423 Locked\r\nLockCookie: 1\r\nLockAge: 1\r\nContent-Length: 0\r\n\r\n";
+/// A lock in the way: by its cookie, and its age in seconds. The one of cookie 1 was acquired at
+/// 1000, that of cookie 2 at 2000.
+const LOCKED_1_1: &str = "HTTP/1.1 423 Locked\r\nLockCookie: 1\r\nLockAge: 1\r\nLockDate: 1000\r\n\
+    Content-Length: 0\r\n\r\n";
 
-const LOCKED_1_2: &str =
-    "HTTP/1.1 423 Locked\r\nLockCookie: 1\r\nLockAge: 2\r\nContent-Length: 0\r\n\r\n";
+const LOCKED_1_2: &str = "HTTP/1.1 423 Locked\r\nLockCookie: 1\r\nLockAge: 2\r\nLockDate: 1000\r\n\
+    Content-Length: 0\r\n\r\n";
 
-const LOCKED_2_1: &str =
-    "HTTP/1.1 423 Locked\r\nLockCookie: 2\r\nLockAge: 1\r\nContent-Length: 0\r\n\r\n";
+const LOCKED_2_1: &str = "HTTP/1.1 423 Locked\r\nLockCookie: 2\r\nLockAge: 1\r\nLockDate: 2000\r\n\
+    Content-Length: 0\r\n\r\n";
 
 /// The replies where the k-th call of the keeper fails: a write and a first acquire make two calls,
 /// a refused acquire and a refused read one.

@@ -9,6 +9,8 @@ mod endings;
 #[cfg(test)]
 mod exchanges;
 #[cfg(test)]
+mod full_sinks;
+#[cfg(test)]
 mod heads;
 #[cfg(test)]
 mod journals;

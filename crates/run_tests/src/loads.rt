@@ -74,6 +74,18 @@ fn a_load_writes_the_same_over_both_keepers(rt: HostRuntime) -> Result<(), Fail>
 }
 
 #[test]
+fn a_load_writes_the_same_each_time(rt: HostRuntime) -> Result<(), Fail> {
+    let alloc = rt.alloc();
+    let (status, output) = load(alloc, "10000", "1", MapKeeper::new(alloc))?;
+    let (again, other) = load(alloc, "10000", "1", MapKeeper::new(alloc))?;
+    assert_eq!(rt; status, 0);
+    assert_eq!(rt; again, 0);
+    assert_eq!(rt; output.taken(), other.taken());
+    assert_eq!(rt; replies_counted(output.taken()), 10_000);
+    Ok(())
+}
+
+#[test]
 fn a_load_of_many_requests_is_written(rt: HostRuntime) -> Result<(), Fail> {
     let alloc = rt.alloc();
     let (status, output) = load(alloc, "200000", "1", MapKeeper::new(alloc))?;

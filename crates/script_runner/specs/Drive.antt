@@ -105,10 +105,11 @@ status_number end = status_with verdict_number end
 -- ---- a run
 
 -- A run: the bytes taken are lines of a script and a rest; the lines lead from the empty world to a
--- world, and print an output, which was written as the ending says; the keeper that is handed back
--- has the items and the count after the requests of that world; its pages are lawful, and release
--- by force only locks that are in force and old. (CanCount says which counts of faults the keeper's
--- type can have; told and faults are what the keeper tells and counts after the run.)
+-- world, and print an output, which was written as the ending says; each entry of that world's
+-- requests has its cause, and the keeper that is handed back has the items and the count after
+-- them; its pages are lawful, and release by force only locks that are in force and old. (CanCount
+-- says which counts of faults the keeper's type can have; told and faults are what the keeper tells
+-- and counts after the run.)
 pub record IsDrive (CanCount : ℕ → Type 0) (most : ℕ) (f : Flow)
     (told : Option (List ℕ → Option Item)) (faults : ℕ) (end : End) : Type 0 where
   pub bytes : List ℕ

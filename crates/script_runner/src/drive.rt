@@ -39,6 +39,8 @@ pub fn run_drive<S: Source, T: Sink, K: Keeper>(
         (K.told result.keeper) (K.count result.keeper) end }
     ensures read { result.status ≡ 4 → Rose (S.faults source.old) (S.faults source.new) }
     ensures write { result.status ≡ 5 → Rose (T.faults sink.old) (T.faults sink.new) }
+    ensures source_count { S.faults source.old ≤ S.faults source.new }
+    ensures sink_count { T.faults sink.old ≤ T.faults sink.new }
 
     // Where the input is a script and neither source nor sink fails, all of it is run, if memory is
     // there.

@@ -16,17 +16,24 @@ use stream_server::StreamEnd;
 const ALL_SHARDS: u64 = 0xff;
 
 /// How often a turn looks at most whether the others have come.
-const MOST_LOOKS: u64 = 20_000_000;
+const MOST_LOOKS: u64 = 1_000_000_000;
 
-/// A gate that keeps the first turn of each shard inside until there was a turn of every shard.
+/// Eight requests, and eight sweeps that look once in each shard.
+const TURNS: u64 = 72;
+
+/// A gate that keeps the first turn of each shard inside until there was a turn of every shard, and
+/// counts the turns that begin and those that are over.
 #[derive(Drop)]
 struct Meeting {
     seen: AtomicU64,
     gave_up: AtomicBool,
+    begun: AtomicU64,
+    over: AtomicU64,
 }
 
 impl Gate for Meeting {
     fn inside<R: Wait>(&self, _rt: &R, shard: u64) {
+        self.begun.fetch_add(1, Ordering::SeqCst);
         let bit = 1u64.checked_shl(shard.min(63) as u32).unwrap_or(0);
         if self.seen.fetch_or(bit, Ordering::SeqCst) & bit != 0 {
             return;
@@ -43,7 +50,9 @@ impl Gate for Meeting {
         self.gave_up.store(true, Ordering::SeqCst);
     }
 
-    fn after<R: Wait>(&self, _rt: &R, _shard: u64) {}
+    fn after<R: Wait>(&self, _rt: &R, _shard: u64) {
+        self.over.fetch_add(1, Ordering::SeqCst);
+    }
 }
 
 /// Eight workers, of which each writes an item of its own: `/a` to `/h`, whose shards differ.
@@ -66,6 +75,8 @@ fn shards_are_served_at_once(rt: HostRuntime) -> Result<(), Fail> {
     let gate = Meeting {
         seen: AtomicU64::new(0),
         gave_up: AtomicBool::new(false),
+        begun: AtomicU64::new(0),
+        over: AtomicU64::new(0),
     };
     let mut workers = eight_workers(alloc)?;
     let Some(_kept) = serve_new(&rt, alloc, 8, workers.as_mut_slice(), &gate) else {
@@ -73,6 +84,8 @@ fn shards_are_served_at_once(rt: HostRuntime) -> Result<(), Fail> {
     };
     assert!(rt; !gate.gave_up.load(Ordering::SeqCst));
     assert_eq!(rt; gate.seen.load(Ordering::SeqCst), ALL_SHARDS);
+    assert_eq!(rt; gate.begun.load(Ordering::SeqCst), TURNS);
+    assert_eq!(rt; gate.over.load(Ordering::SeqCst), TURNS);
     for worker in workers.iter() {
         for given in worker.door.given_back() {
             assert_eq!(rt; given.end, StreamEnd::Closed);

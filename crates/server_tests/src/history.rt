@@ -5,7 +5,7 @@ use crate::clients::{ACQUIRE, Clients, NOTHING, OPEN, STEP, Steps, ask_of, clien
 use crate::memory::{sink, source};
 use crate::serving::{Kept, find_all, serve_new};
 use asp_base::{NoMemory, OpenGate};
-use asp_messages::{Reply, push, push_number, spell_ask, spell_reply, then_number};
+use asp_messages::{Reply, push, push_number, spell_ask, spell_dated, then_number};
 use journal_replay::run_replay;
 use keeper::MapKeeper;
 use std::alloc::Global;
@@ -154,7 +154,7 @@ fn write_step(alloc: Global, out: &mut Vec<u8>, step: &Step, drawn: u64) -> Resu
         _ => push(out, b" - looked")?,
     }
     push(out, b" : ")?;
-    spell_reply(out, &step.reply)?;
+    spell_dated(out, &step.reply)?;
     push(out, b"\n")
 }
 
@@ -162,7 +162,7 @@ fn write_step(alloc: Global, out: &mut Vec<u8>, step: &Step, drawn: u64) -> Resu
 /// change nothing, and how many entries it has.
 fn journal_of(alloc: Global, first: Vec<Step>, second: Vec<Step>) -> Result<(Vec<u8>, u64), Fail> {
     let (mut first, mut second) = (first, second);
-    let mut out = Vec::from_slice(alloc, b"asp-journal 1 0\n")?;
+    let mut out = Vec::from_slice(alloc, b"asp-journal 3 0\n")?;
     let mut entries: u64 = 0;
     let mut state = State {
         made: false,

@@ -11,8 +11,12 @@ mod history;
 #[cfg(test)]
 mod memory;
 #[cfg(test)]
+mod rude_peers;
+#[cfg(test)]
 mod serving;
 #[cfg(test)]
 mod sockets;
 #[cfg(test)]
 mod streams;
+#[cfg(test)]
+mod visits;

@@ -18,7 +18,7 @@ use stream_server::{TcpDoor, Worker};
 use visit_core::{Ending, Limits, Need, Outcome, Visit};
 
 /// A listener on a port of the machine itself that was free, and the port.
-fn listen<R: Net<Listener = TcpListener, Stream = TcpStream>>(
+pub fn listen<R: Net<Listener = TcpListener, Stream = TcpStream>>(
     rt: &R,
 ) -> Result<(TcpListener, u16), Fail> {
     let listener = TcpListener::bind(rt, SocketAddr::from((Ipv4Addr::LOCALHOST, 0)))?;
@@ -28,7 +28,7 @@ fn listen<R: Net<Listener = TcpListener, Stream = TcpStream>>(
 
 /// One worker serves so many connections of the listener, and the store is found so. `None` is want
 /// of memory.
-fn serve_some<R: Abort + Threads + Wait + HostTime + Sync>(
+pub fn serve_some<R: Abort + Threads + Wait + HostTime + Sync>(
     rt: &R,
     alloc: Global,
     listener: &TcpListener,

@@ -33,8 +33,9 @@ const FOUND: &str = "HTTP/1.1 200 OK\r\nTimeout: 20\r\nContent-Length: 1\r\n\r\n
 const FOUND_1: &str =
     "HTTP/1.1 200 OK\r\nTimeout: 20\r\nLockCookie: 1\r\nContent-Length: 1\r\n\r\nx";
 
-const LOCKED_0: &str =
-    "HTTP/1.1 423 Locked\r\nLockCookie: 1\r\nLockAge: 0\r\nContent-Length: 0\r\n\r\n";
+/// The lock of cookie 1, acquired at 5000.
+const LOCKED_0: &str = "HTTP/1.1 423 Locked\r\nLockCookie: 1\r\nLockAge: 0\r\nLockDate: 5000\r\n\
+    Content-Length: 0\r\n\r\n";
 
 /// What is sent, in pieces of how many bytes, and which reads fail; how many bytes a write takes,
 /// and which writes fail; what is written, how many bytes of it (0 is all), the end, and how many

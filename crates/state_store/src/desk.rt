@@ -9,6 +9,7 @@ ghost use Rattle.cookie_source.specs.Source.{source_id, drawer_home};
 ghost use Rattle.shard_core.specs.Standing.{TellsSame, asked_entry};
 ghost use Rattle.shard_core.specs.Sweeping.{swept_entry};
 ghost use Rattle.turnstile.specs.Rule.{end_of_places};
+ghost use Rattle.turnstile.specs.declared.terms.Terms.{Terms};
 
 use crate::note::Note;
 use asp_messages::{Ask, Reply, Request};
@@ -52,8 +53,8 @@ impl<K: Keeper> Stands for Desk<K> {
     ghost use Rattle.state_store.specs.Standing.{DeskStands};
     ghost use Rattle.state_store.specs.Desks.{drawn_at};
 
-    ghost stands = { λ d first list.
-        DeskStands K.can_count first list (K.told d.shard) (K.count d.shard) (drawn_at d) };
+    ghost stands = { λ d terms list.
+        DeskStands K.can_count terms list (K.told d.shard) (K.count d.shard) (drawn_at d) };
 
     ghost caller = { λ e. e.caller };
 }
@@ -75,6 +76,8 @@ impl<K: Keeper> Desk<K> {
         requires home { drawer_home drawer ≡ source_id (arc_value source) }
         ensures shard { result.shard ≡ keeper }
         ensures drawn { (drawn_at result).cookies ≡ drawn_by drawer }
+        ensures source { ((drawn_at result).first ≡ first_of (arc_value source))
+            × ((drawn_at result).last ≡ last_of (arc_value source)) }
     {
         Desk {
             shard: Shard::new(alloc, keeper),
@@ -86,12 +89,15 @@ impl<K: Keeper> Desk<K> {
     /// The cookie of an acquire, 0 where none was left and for every other ask.
     fn draw_for<R>(&mut self, rt: &R, ask: &Ask) -> u64
         ensures fits { DrawFits ask.now result }
+        ensures in_range { 0 < result → ((drawn_at self.old).first ≤ result)
+            × (result ≤ (drawn_at self.old).last) }
         ensures above { 0 < result → All (λ n. n < result) (drawn_at self.old).cookies }
         ensures one { 0 < result
             → (drawn_at self.new).cookies ≡ (drawn_at self.old).cookies ++ result ∷ [] }
         ensures none { result ≡ 0 → (drawn_at self.new).cookies ≡ (drawn_at self.old).cookies }
         ensures past_last { IsOutOfCookies ask.now result
             → (drawn_at self.new).last < (drawn_at self.new).seen }
+        ensures first { (drawn_at self.new).first ≡ (drawn_at self.old).first }
         ensures last { (drawn_at self.new).last ≡ (drawn_at self.old).last }
         ensures never_falls { (drawn_at self.old).seen ≤ (drawn_at self.new).seen }
         ensures shard { self.new.shard ≡ self.old.shard }
@@ -119,10 +125,10 @@ impl<K: Keeper> Desk<K> {
 
         // Behind each history that the desk stands for, the request's entry makes a history that it
         // stands for.
-        ensures stands { (first caller : ℕ) (list : List AnEntry)
-            → caller < 2 ^ 63 → first + length list < end_of_places
-            → HasEntries ⟦<K as Keeper>⟧ first list self.old
-            → HasEntries ⟦<K as Keeper>⟧ first
+        ensures stands { (terms : Terms) (caller : ℕ) (list : List AnEntry)
+            → caller < 2 ^ 63 → terms.first_place + length list < end_of_places
+            → HasEntries ⟦<K as Keeper>⟧ terms list self.old
+            → HasEntries ⟦<K as Keeper>⟧ terms
             (list ++ asked_entry caller t request result.drawn result.reply result.faults ∷ [])
             self.new }
     {
@@ -142,10 +148,10 @@ impl<K: Keeper> Desk<K> {
 
         // Behind each history that the desk stands for, the look's entry makes a history that it
         // stands for.
-        ensures stands { (first caller : ℕ) (list : List AnEntry)
-            → caller < 2 ^ 63 → first + length list < end_of_places
-            → HasEntries ⟦<K as Keeper>⟧ first list self.old
-            → HasEntries ⟦<K as Keeper>⟧ first
+        ensures stands { (terms : Terms) (caller : ℕ) (list : List AnEntry)
+            → caller < 2 ^ 63 → terms.first_place + length list < end_of_places
+            → HasEntries ⟦<K as Keeper>⟧ terms list self.old
+            → HasEntries ⟦<K as Keeper>⟧ terms
             (list ++ swept_entry caller t result.found result.faults ∷ []) self.new }
         ensures nothing { result.found ≡ Swept.Nothing
             → HasDue ⟦<K as Keeper>⟧ self.new.shard t None }

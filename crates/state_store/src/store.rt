@@ -1,6 +1,6 @@
 //! The store and its calls.
 ghost use Rattle.std.specs.Prelude.{◌≡◌, ◌≤◌, All, length};
-ghost use Rattle.turnstile.specs.Turns.{first_place_of};
+ghost use Rattle.turnstile.specs.Turns.{terms_of};
 
 use crate::desk::Desk;
 use crate::fresh::{FreshShards, open_shards};
@@ -13,7 +13,7 @@ use cookie_source::{CookieSource, FreshCookies};
 use keeper::Keeper;
 use std::alloc::Global;
 use std::sync::{Arc, Wait};
-use turnstile::{Stands, Turnstile};
+use turnstile::{Stands, Terms, Turnstile};
 
 /// Sessions that threads share, in 1 to 64 shards. Each shard is behind a turnstile of its own.
 #[derive(Drop)]
@@ -22,8 +22,8 @@ where
     Desk<K>: Stands,
 {
     turnstiles: Vec<Turnstile<Desk<K>>>,
-    first_place: u64,
-    ghost one_first_place: { All (λ turns. first_place_of turns ≡ first_place) turnstiles.items },
+    terms: Terms,
+    ghost one_terms: { All (λ turns. terms_of turns ≡ terms) turnstiles.items },
     ghost shards: { (1 ≤ length turnstiles.items) × (length turnstiles.items ≤ 64) },
 }
 
@@ -46,7 +46,7 @@ impl<K: Keeper + Drop> Store<K> {
     ghost use Rattle.state_store.specs.Turns.{AlwaysTells, IsAsked, FindsNoPlace, Meets};
     ghost use Rattle.state_store.specs.Sweep.{Sweeps};
     ghost use Rattle.state_store.specs.Fresh.{IsNewKeeper};
-    ghost use Rattle.state_store.specs.Passes.{shards_of, first_place as store_first_place, shard_for, caller_of, passes_of, view_in, view_for, call_of, IsPassOf, IsRollOf};
+    ghost use Rattle.state_store.specs.Passes.{shards_of, first_place as store_first_place, first_cookie as store_first_cookie, last_cookie as store_last_cookie, shard_for, caller_of, passes_of, view_in, view_for, call_of, IsPassOf, IsRollOf};
 
     /// A store with a shard for each of 1 to 64 keepers, whose cookies go from `first_cookie` to
     /// `last_cookie`, and whose places begin with `first_place` in each shard; and its roll. After
@@ -67,21 +67,31 @@ impl<K: Keeper + Drop> Store<K> {
         requires place { first_place ≤ end_of_places }
         ensures shards { IfOk result (λ f. shards_of f.store ≡ length keepers.items) }
         ensures place { IfOk result (λ f. store_first_place f.store ≡ first_place) }
+        ensures first_cookie { IfOk result (λ f. store_first_cookie f.store ≡ first_cookie) }
+        ensures last_cookie { IfOk result (λ f. store_last_cookie f.store ≡ last_cookie) }
         ensures roll { IfOk result (λ f. IsRollOf f.store f.roll) }
         ensures no_pass { IfOk result (λ f. passes_of f.roll ≡ 0) }
     {
-        let fresh = CookieSource::new(rt, alloc, first_cookie, last_cookie, keepers.len() as u64)?;
+        let terms = Terms {
+            first_place,
+            first_number: first_cookie,
+            last_number: last_cookie,
+        };
+        let fresh = CookieSource::new(
+            rt,
+            alloc,
+            terms.first_number,
+            terms.last_number,
+            keepers.len() as u64,
+        )?;
         let FreshCookies { source, drawers } = fresh;
         let Ok(source) = Arc::new(alloc, source) else {
             return Err(NoMemory);
         };
-        let shards = open_shards(rt, alloc, keepers, &source, drawers, first_place)?;
+        let shards = open_shards(rt, alloc, keepers, &source, drawers, terms)?;
         let FreshShards { turnstiles, rolls } = shards;
         Ok(FreshStore {
-            store: Store {
-                turnstiles,
-                first_place,
-            },
+            store: Store { turnstiles, terms },
             roll: Roll { rolls, made: 0 },
         })
     }

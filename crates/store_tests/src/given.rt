@@ -27,7 +27,7 @@ pub(crate) fn on_key(alloc: Global, letter: u8, ask: Ask) -> Result<Request, NoM
 
 /// A write of `x` that lives for so many minutes.
 pub(crate) fn write(alloc: Global, letter: u8, minutes: u64) -> Result<Request, NoMemory>
-    requires { (1 ≤ minutes) × (minutes ≤ 20) }
+    requires { (1 ≤ minutes) × (minutes ≤ 525_600) }
     ensures { IfOk result RequestFits }
 {
     let ask = Ask::Write {

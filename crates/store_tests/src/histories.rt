@@ -3,7 +3,7 @@ ghost use Rattle.std.specs.Prelude.{◌≡◌, ◌≤◌, ℕ, [], Some, length,
 ghost use Rattle.asp_messages.specs.Ranges.{RequestFits};
 ghost use Rattle.state_store.specs.Passes.{IsPassOf, first_place, view_for, view_in};
 
-use crate::given::{answer, first_pass, keepers, on_key, open, sweep, write};
+use crate::given::{LAST_COOKIE, answer, first_pass, keepers, on_key, open, sweep, write};
 use asp_base::{Bytes, NoMemory, OpenGate};
 use asp_messages::{Ask, Reply, Request};
 use keeper::ListKeeper;
@@ -140,5 +140,29 @@ fn shards_draw_from_one_source(rt: HostRuntime) -> Result<(), Fail> {
     let fourth = on_key(alloc, b'd', Ask::Acquire)?;
     let two = found(alloc, Some(2), 1)?;
     assert_eq!(rt; answer(&rt, store, &mut pass, fourth), two);
+    Ok(())
+}
+
+#[test]
+fn the_last_cookie_of_a_store_is_granted_once(rt: HostRuntime) -> Result<(), Fail> {
+    let alloc = rt.alloc();
+    let fresh = Store::new(&rt, alloc, keepers(alloc, 8)?, LAST_COOKIE, LAST_COOKIE, 0)?;
+    let FreshStore { store, mut roll } = fresh;
+    let store = &store;
+    let mut pass = first_pass(&rt, alloc, store, &mut roll)?;
+    answer(&rt, store, &mut pass, write(alloc, b'b', 20)?);
+    answer(&rt, store, &mut pass, write(alloc, b'd', 20)?);
+    let third = on_key(alloc, b'b', Ask::Acquire)?;
+    let last = found(alloc, Some(LAST_COOKIE), 1)?;
+    assert_eq!(rt; answer(&rt, store, &mut pass, third), last);
+    let none_left = Answer {
+        reply: Reply::CookiesOut,
+        place: Some(1),
+    };
+    let fourth = on_key(alloc, b'd', Ask::Acquire)?;
+    assert_eq!(rt; answer(&rt, store, &mut pass, fourth), none_left);
+    let fifth = on_key(alloc, b'd', Ask::Read)?;
+    let free = found(alloc, None, 2)?;
+    assert_eq!(rt; answer(&rt, store, &mut pass, fifth), free);
     Ok(())
 }

@@ -7,6 +7,8 @@ mod cookies;
 #[cfg(test)]
 mod desks;
 #[cfg(test)]
+mod gates;
+#[cfg(test)]
 mod given;
 #[cfg(test)]
 mod histories;

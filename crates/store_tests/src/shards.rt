@@ -48,6 +48,27 @@ fn removes_by_keys<K: Keeper + Drop>(
     Ok(())
 }
 
+/// An item that would live for a year from each touch is removed one day after it was made.
+fn removes_after_a_day<K: Keeper + Drop>(
+    rt: &impl Abort,
+    alloc: Global,
+    keeper: K,
+) -> Result<(), NoMemory> {
+    let mut shard = Shard::new(alloc, keeper);
+    assert!(rt; matches!(act(&mut shard, write(alloc, b'a', 525_600)?), Reply::Done));
+    assert_eq!(rt; sweep_one(&mut shard, 86_399_999), Swept::Nothing);
+    assert_eq!(rt; sweep_one(&mut shard, 86_400_000), removed(alloc, b'a')?);
+    Ok(())
+}
+
+#[test]
+fn an_item_ends_one_day_after_it_was_made(rt: HostRuntime) -> Result<(), Fail> {
+    let alloc = rt.alloc();
+    removes_after_a_day(&rt, alloc, ListKeeper::new(alloc))?;
+    removes_after_a_day(&rt, alloc, MapKeeper::new(alloc))?;
+    Ok(())
+}
+
 #[test]
 fn items_of_one_moment_are_removed_by_their_keys(rt: HostRuntime) -> Result<(), Fail> {
     let alloc = rt.alloc();

@@ -38,6 +38,20 @@ fn expired_items_are_removed(rt: HostRuntime) -> Result<(), Fail> {
     two_expire(&rt, rt.alloc(), 8)
 }
 
+#[test]
+fn an_item_is_removed_one_day_after_it_was_made(rt: HostRuntime) -> Result<(), Fail> {
+    let alloc = rt.alloc();
+    let fresh = open(&rt, alloc, keepers(alloc, 8)?, 0)?;
+    let FreshStore { store, mut roll } = fresh;
+    let mut pass = first_pass(&rt, alloc, &store, &mut roll)?;
+    answer(&rt, &store, &mut pass, write(alloc, b'a', 525_600)?);
+    let early = sweep(&rt, &store, &mut pass, 86_399_999);
+    assert_eq!(rt; early, swept(0, SweepEnd::Clear));
+    let late = sweep(&rt, &store, &mut pass, 86_400_000);
+    assert_eq!(rt; late, swept(1, SweepEnd::Clear));
+    Ok(())
+}
+
 /// Writes so many items of one minute, each under a key of its own.
 fn write_many<R: Wait>(
     rt: &R,

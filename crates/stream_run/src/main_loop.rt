@@ -23,6 +23,8 @@ fn run_pieces<C: Consumer, S: Source, T: Sink>(
         result }
     ensures read { result ≡ End.ReadFault → Rose (S.faults source.old) (S.faults source.new) }
     ensures write { result ≡ End.WriteFault → Rose (T.faults sink.old) (T.faults sink.new) }
+    ensures source_count { S.faults source.old ≤ S.faults source.new }
+    ensures sink_count { T.faults sink.old ≤ T.faults sink.new }
 {
     let mut buf = [0u8; MOST_PIECE];
     let mut text = Text::new();
@@ -59,6 +61,8 @@ pub fn run<C: Consumer, S: Source, T: Sink>(
         result }
     ensures read { result ≡ End.ReadFault → Rose (S.faults source.old) (S.faults source.new) }
     ensures write { result ≡ End.WriteFault → Rose (T.faults sink.old) (T.faults sink.new) }
+    ensures source_count { S.faults source.old ≤ S.faults source.new }
+    ensures sink_count { T.faults sink.old ≤ T.faults sink.new }
 
     // Where neither source nor sink fails, the consumer is over with the whole input, if memory is
     // there.

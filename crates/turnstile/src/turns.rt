@@ -6,7 +6,7 @@ use crate::rule::{
     TakeRoll, TakeTicket, TurnRule,
 };
 use crate::view::SaidEntry;
-use crate::{FreshTurns, SeatView, Spent, Stands, Turn, TurnPass, TurnRoll};
+use crate::{FreshTurns, SeatView, Spent, Stands, Terms, Turn, TurnPass, TurnRoll};
 use asp_base::NoMemory;
 use atomic_table::{Refused, Seat, Table};
 use std::alloc::Global;
@@ -43,7 +43,7 @@ const PARKED_ON: u64 = 1 << 32;
 /// place of the entry that the turn leaves.
 #[derive(Drop)]
 pub struct Turnstile<S: Stands> {
-    table: Table<Option<S>, SeatView<S::Entry>, u64, TurnRule<S>, Global>,
+    table: Table<Option<S>, SeatView<S::Entry>, Terms, TurnRule<S>, Global>,
     /// How many callers sleep, or are about to, until a turn is left.
     sleepers: AtomicU64,
     ghost three_words: { table.shared.table_id.words ≡ 3 },
@@ -55,25 +55,21 @@ impl<S: Stands + Drop> Turnstile<S> {
     ghost use mathlib.Core.List.{IsPrefix};
     ghost use Rattle.turnstile.specs.Rule.{end_of_places, with_note};
     ghost use Rattle.turnstile.specs.Steps.{saw, with_ticket, left, compared, TurnComes, GrowsByOthers};
-    ghost use Rattle.turnstile.specs.Turns.{first_place_of, turnstile_id, roll_home, passes_made, pass_home, caller_number, front, own_calls, ticket_seen, has_turn, state_of, IsSamePass, ExtendsByOthers};
+    ghost use Rattle.turnstile.specs.Turns.{terms_of, first_place_of, turnstile_id, roll_home, passes_made, pass_home, caller_number, front, own_calls, ticket_seen, has_turn, state_of, IsSamePass, ExtendsByOthers};
 
     /// A turnstile whose state stands for no entries yet, and its roll. After `NoMemory` the state
     /// is dropped.
-    pub fn new<R>(
-        _rt: &R,
-        alloc: Global,
-        state: S,
-        first_place: u64,
-    ) -> Result<FreshTurns<S>, NoMemory>
-        requires place { first_place ≤ end_of_places }
-        requires state { S.stands state first_place [] }
-        ensures place { IfOk result (λ f. first_place_of f.turns ≡ first_place) }
+    pub fn new<R>(_rt: &R, alloc: Global, state: S, terms: Terms) -> Result<FreshTurns<S>, NoMemory>
+        requires place { terms.first_place ≤ end_of_places }
+        requires state { S.stands state terms [] }
+        ensures terms { IfOk result (λ f. terms_of f.turns ≡ terms) }
         ensures home { IfOk result (λ f. roll_home f.roll ≡ turnstile_id f.turns) }
         ensures no_pass { IfOk result (λ f. passes_made f.roll ≡ 0) }
     {
         let mut slots = Vec::with_capacity(alloc, 1)?;
         slots.push_reserved(Some(state));
-        match Table::new(alloc, &[first_place, first_place, 0], slots, &first_place) {
+        let first_place = terms.first_place;
+        match Table::new(alloc, &[first_place, first_place, 0], slots, &terms) {
             Ok((table, seat)) => Ok(FreshTurns {
                 turns: Turnstile {
                     table,
@@ -108,16 +104,15 @@ impl<S: Stands + Drop> Turnstile<S> {
     /// this pass from then on.
     ///
     /// A caller takes a ticket only where it sees that it would be served at once, so a caller that
-    /// waits, and may not run, holds up nobody.
-    /// The order is that in which tickets are taken, and not that of the calls. After 100 looks a
-    /// caller sleeps until a turn is left.
+    /// waits, and may not run, holds up nobody. The order is that in which tickets are taken, and
+    /// not that of the calls. After 100 looks a caller sleeps until a turn is left.
     pub fn enter<R: Wait>(&self, rt: &R, pass: &mut TurnPass<S>) -> Result<Turn<S>, Spent>
         requires home { pass_home pass.old ≡ turnstile_id self.now }
         requires outside { has_turn pass.old ≡ false }
         ensures pass { IsSamePass pass.old pass.new }
 
         // The state stands for the whole history, which is the pass's new front.
-        ensures state { IfOk result (λ t. S.stands (state_of t) (first_place_of self.now)
+        ensures state { IfOk result (λ t. S.stands (state_of t) (terms_of self.now)
             (front pass.new)) }
         ensures front { IfOk result (λ _. ExtendsByOthers S.caller (caller_number pass.old)
             (front pass.old) (front pass.new)) }
@@ -154,7 +149,7 @@ impl<S: Stands + Drop> Turnstile<S> {
     ) -> Option<u64>
         requires home { seat.old.table_id ≡ self.now.table.shared.table_id }
         requires outside { (seat.old.me.0.ticket ≡ None) × (seat.old.me.0.inside ≡ false)
-            × (seat.old.me.0.first ≡ first_place_of self.now) }
+            × (seat.old.me.0.terms ≡ terms_of self.now) }
         requires number { (n : ℕ) × (seat.old.me.0.number ≡ Some n) }
         ensures home { seat.new.table_id ≡ seat.old.table_id }
         ensures some { IfSome result (λ t. (seat.new.me ≡ (
@@ -268,7 +263,7 @@ impl<S: Stands + Drop> Turnstile<S> {
         requires home { pass_home pass.old ≡ turnstile_id self.now }
         requires turn { has_turn pass.old ≡ true }
         requires caller { S.caller entry.now ≡ caller_number pass.old }
-        requires state { S.stands (state_of turn) (first_place_of self.now)
+        requires state { S.stands (state_of turn) (terms_of self.now)
             (front pass.old ++ entry.now ∷ []) }
         ensures pass { IsSamePass pass.old pass.new }
         ensures place { result ≡ first_place_of self.now + length (front pass.old) }
@@ -294,10 +289,10 @@ impl<S: Stands + Drop> Turnstile<S> {
     ) -> u64
         requires said { W.entry ≡ Some entry.now }
         requires home { (seat.old.table_id ≡ self.now.table.shared.table_id)
-            × (seat.old.me.0.first ≡ first_place_of self.now) }
+            × (seat.old.me.0.terms ≡ terms_of self.now) }
         requires turn { (seat.old.me.0.inside ≡ true) × (seat.old.me.1 ≡ (0, None) ∷ []) }
         requires caller { seat.old.me.0.number ≡ Some (S.caller entry.now) }
-        requires state { S.stands state (first_place_of self.now)
+        requires state { S.stands state (terms_of self.now)
             (seat.old.me.0.front ++ entry.now ∷ []) }
         ensures home { seat.new.table_id ≡ seat.old.table_id }
         ensures place { result ≡ first_place_of self.now + length seat.old.me.0.front }

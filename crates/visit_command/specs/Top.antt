@@ -28,6 +28,7 @@ WritesLine status good sink sink' line =
 -- What the link, the clock and the sink tell at one time.
 pub record Outside : Type 0 where
   pub link : Option (List ℕ × List ℕ)
+  pub pauses : Option (List ℕ × ℕ)
   pub clock : Option (ℕ → ℕ)
   pub sink : Option (List ℕ)
 
@@ -54,8 +55,8 @@ pub record HasVisited (page : PageWords) (before after : Outside) (status : ℕ)
   pub terms : first.terms ≡ terms_of page
   pub new : IsNew first
   pub visit : IsVisit page.ending
-      (record { visit = first; link = before.link; clock = before.clock })
-      (record { visit = last; link = after.link; clock = after.clock }) end
+      (record { visit = first; link = before.link; pauses = before.pauses; clock = before.clock })
+      (record { visit = last; link = after.link; pauses = after.pauses; clock = after.clock }) end
   pub tells : Tells end status before.sink after.sink
 
 -- memory was wanting before the visit began, or it was made

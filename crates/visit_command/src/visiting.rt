@@ -1,5 +1,5 @@
 //! One visit by the words of a command line.
-ghost use Rattle.std.specs.Prelude.{◌≡◌, ◌⊎◌, ◌↔◌, ◌++◌, ◌∷◌, [], None, OnOk, OnErr, IfSome, map, string_bytes};
+ghost use Rattle.std.specs.Prelude.{◌≡◌, ◌≤◌, ◌⊎◌, ◌↔◌, ◌++◌, ◌∷◌, [], None, OnOk, OnErr, IfSome, map, string_bytes};
 ghost use Rattle.asp_base.specs.Causes.{Rose, HasCause};
 ghost use Rattle.asp_base.specs.Outside.{Takes, TakesFront};
 ghost use Rattle.page_link.specs.Visits.{TellsReplies};
@@ -45,6 +45,7 @@ fn write_outcome<T: Sink>(sink: &mut T, outcome: &Outcome) -> u8
     ensures writes { WritesLine result (outcome_status outcome.now) (T.taken sink.old)
         (T.taken sink.new) (outcome_spelling outcome.now ++ 10 ∷ []) }
     ensures fault { result ≡ 5 → Rose (T.faults sink.old) (T.faults sink.new) }
+    ensures count { T.faults sink.old ≤ T.faults sink.new }
 {
     let text = outcome_text(outcome);
     match write_line(sink, text.as_slice()) {
@@ -72,11 +73,23 @@ pub fn visit<R: Wait + HostTime, L: Link, T: Sink, C: Clock>(
         → (link.new ≡ link.old) × (sink.new ≡ sink.old) × (clock.new ≡ clock.old) }
     ensures visit { IfSome (visit_of (map string_bytes words.now)) (λ page.
         IsVisitOf page
-        (record { link = L.told link.old; clock = C.told clock.old; sink = T.taken sink.old })
-        (record { link = L.told link.new; clock = C.told clock.new; sink = T.taken sink.new })
+        (record {
+          link = L.told link.old;
+          pauses = L.pauses link.old;
+          clock = C.told clock.old;
+          sink = T.taken sink.old;
+        })
+        (record {
+          link = L.told link.new;
+          pauses = L.pauses link.new;
+          clock = C.told clock.new;
+          sink = T.taken sink.new;
+        })
         result) }
     ensures lost { result ≡ 13 → Rose (L.faults link.old) (L.faults link.new) }
     ensures fault { result ≡ 5 → Rose (T.faults sink.old) (T.faults sink.new) }
+    ensures link_count { L.faults link.old ≤ L.faults link.new }
+    ensures sink_count { T.faults sink.old ≤ T.faults sink.new }
 
     // Where neither link nor sink fails and enough whole replies come, the status is that of an
     // outcome, or 6; or the words are none of `visit`.

@@ -1,6 +1,5 @@
 -- How a visit stands for its past. Above this crate only the names `HasPast`, `Sends`, `Runs` and
--- `steps_left` are of use:
--- what they are good for is said by what the calls ensure.
+-- `steps_left` are of use: what they are good for is said by what the calls ensure.
 use Rattle.std.specs.Prelude.{◌≡◌, ℕ, ◌+◌, ◌-◌, ◌*◌, ◌<◌, ◌≤◌, List, reverse, None, IfSome, true, false, nat_lt, if◌then◌else◌, ⊤}
 use Rattle.asp_messages.specs.declared.request.Request.{Request}
 use Rattle.asp_messages.specs.declared.request.Ask.{Ask}

@@ -8,3 +8,5 @@ mod commands;
 mod links;
 #[cfg(test)]
 mod pages;
+#[cfg(test)]
+mod texts;

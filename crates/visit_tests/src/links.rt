@@ -1,6 +1,7 @@
-//! Visits over a link in memory: what is sent, and how they end.
-ghost use Rattle.std.specs.Prelude.{◌≤◌, ◌^◌, IfOk, All};
-
+//! Visits over a link in memory: what is sent, until when they pause, and how they end.
+use crate::texts::{
+    ACQUIRE, DONE, FOUND_2, LOCKED_110, LOCKED_111, MISSING, RELEASE_2, joined, moments_of,
+};
 use asp_base::{Bytes, ListClock};
 use page_link::{MemoryLink, VisitEnd, run_visit};
 use std::alloc::Global;
@@ -11,36 +12,19 @@ use std::sync::Wait;
 use std::test::Fail;
 use visit_core::{Ending, Limits, Need, Outcome, Visit};
 
-const ACQUIRE: &str = "GET %2Fs HTTP/1.1\r\nHost: state\r\nExclusive: acquire\r\n\r\n";
-
-const RELEASE_2: &str =
-    "GET %2Fs HTTP/1.1\r\nHost: state\r\nExclusive: release\r\nLockCookie: 2\r\n\r\n";
-
-const MISSING: &str = "HTTP/1.1 404 Not Found\r\nContent-Length: 0\r\n\r\n";
-
-const DONE: &str = "HTTP/1.1 200 OK\r\nContent-Length: 0\r\n\r\n";
-
-const LOCKED_110: &str =
-    "HTTP/1.1 423 Locked\r\nLockCookie: 2\r\nLockAge: 110\r\nContent-Length: 0\r\n\r\n";
-
-const LOCKED_111: &str =
-    "HTTP/1.1 423 Locked\r\nLockCookie: 2\r\nLockAge: 111\r\nContent-Length: 0\r\n\r\n";
-
-const FOUND_2: &str =
-    "HTTP/1.1 200 OK\r\nTimeout: 20\r\nLockCookie: 2\r\nContent-Length: 1\r\n\r\nx";
-
 // The moments of the clock, the replies that are received, and the numbers of the sends and the
-// receipts that fail; what is sent, and the end.
+// receipts that fail; what is sent, the moments until which the visit pauses, and the end.
 struct Case {
     moments: &'static [u64],
     replies: &'static [&'static str],
     send_fails: &'static [u64],
     receive_fails: &'static [u64],
     sent: &'static [&'static str],
+    pauses: &'static [u64],
     end: VisitEnd,
 }
 
-const CASES: [Case; 11] = [
+const CASES: [Case; 12] = [
     // There is no item, and nothing to keep.
     Case {
         moments: &[0],
@@ -48,6 +32,7 @@ const CASES: [Case; 11] = [
         send_fails: &[],
         receive_fails: &[],
         sent: &[ACQUIRE],
+        pauses: &[],
         end: VisitEnd::Over(Outcome::Done),
     },
     // What comes is no reply of the protocol.
@@ -57,6 +42,7 @@ const CASES: [Case; 11] = [
         send_fails: &[],
         receive_fails: &[],
         sent: &[ACQUIRE],
+        pauses: &[],
         end: VisitEnd::Over(Outcome::Refused { status: 302 }),
     },
     // The request can't be sent.
@@ -66,6 +52,7 @@ const CASES: [Case; 11] = [
         send_fails: &[0],
         receive_fails: &[],
         sent: &[],
+        pauses: &[],
         end: VisitEnd::Over(Outcome::LinkFault),
     },
     // The answer can't be received.
@@ -75,6 +62,7 @@ const CASES: [Case; 11] = [
         send_fails: &[],
         receive_fails: &[0],
         sent: &[ACQUIRE],
+        pauses: &[],
         end: VisitEnd::Over(Outcome::LinkFault),
     },
     // Nothing comes.
@@ -84,6 +72,7 @@ const CASES: [Case; 11] = [
         send_fails: &[],
         receive_fails: &[],
         sent: &[ACQUIRE],
+        pauses: &[],
         end: VisitEnd::BadReply,
     },
     // The answer ends inside its head.
@@ -93,6 +82,7 @@ const CASES: [Case; 11] = [
         send_fails: &[],
         receive_fails: &[],
         sent: &[ACQUIRE],
+        pauses: &[],
         end: VisitEnd::BadReply,
     },
     // The answer is no message of HTTP.
@@ -102,6 +92,7 @@ const CASES: [Case; 11] = [
         send_fails: &[],
         receive_fails: &[],
         sent: &[ACQUIRE],
+        pauses: &[],
         end: VisitEnd::BadReply,
     },
     // The item is locked, and released at the page's end.
@@ -111,6 +102,7 @@ const CASES: [Case; 11] = [
         send_fails: &[],
         receive_fails: &[],
         sent: &[ACQUIRE, RELEASE_2],
+        pauses: &[],
         end: VisitEnd::Over(Outcome::Done),
     },
     // A lock as old as the timeout is waited for; then the page loses its own.
@@ -120,10 +112,21 @@ const CASES: [Case; 11] = [
         send_fails: &[],
         receive_fails: &[],
         sent: &[ACQUIRE, ACQUIRE, RELEASE_2],
+        pauses: &[500],
         end: VisitEnd::Over(Outcome::LostLocked {
             cookie: 2,
             age: 111,
         }),
+    },
+    // A turn before the moment pauses again, and the next poll is half a second after the last one.
+    Case {
+        moments: &[0, 0, 100, 600, 700, 1100],
+        replies: &[LOCKED_110, LOCKED_110, FOUND_2, DONE],
+        send_fails: &[],
+        receive_fails: &[],
+        sent: &[ACQUIRE, ACQUIRE, ACQUIRE, RELEASE_2],
+        pauses: &[500, 500, 1100],
+        end: VisitEnd::Over(Outcome::Done),
     },
     // An older one is released.
     Case {
@@ -132,6 +135,7 @@ const CASES: [Case; 11] = [
         send_fails: &[],
         receive_fails: &[],
         sent: &[ACQUIRE, RELEASE_2, ACQUIRE],
+        pauses: &[],
         end: VisitEnd::Over(Outcome::Done),
     },
     // The polls are used up.
@@ -141,6 +145,7 @@ const CASES: [Case; 11] = [
         send_fails: &[],
         receive_fails: &[],
         sent: &[ACQUIRE, ACQUIRE, ACQUIRE],
+        pauses: &[],
         end: VisitEnd::Over(Outcome::GaveUp {
             cookie: 2,
             age: 111,
@@ -148,32 +153,33 @@ const CASES: [Case; 11] = [
     },
 ];
 
-fn joined(alloc: Global, texts: &[&str]) -> Result<Vec<u8>, Fail> {
-    let mut all = Vec::new(alloc);
-    for text in texts {
-        all.extend_from_slice(text.as_bytes())?;
-    }
-    Ok(all)
-}
-
-// The moments, each at most the latest.
-fn moments_of(alloc: Global, moments: &[u64]) -> Result<Vec<u64>, Fail>
-    ensures { IfOk result (λ all. All (λ m. m ≤ 2 ^ 62) all.items) }
-{
-    let mut all = Vec::new(alloc);
-    for moment in moments {
-        all.push((*moment).min(1 << 62))?;
-    }
-    Ok(all)
-}
-
-// An exclusive page of `/s` that keeps its item, over replies in such pieces.
-fn check<R: Abort + Wait + HostTime>(
-    rt: &R,
+// A link with room for so many bytes and so many pauses, over replies in such pieces.
+fn link_of(
     alloc: Global,
     case: &Case,
     piece: u64,
-) -> Result<(), Fail> {
+    room: u64,
+    pauses: u64,
+) -> Result<MemoryLink, Fail> {
+    let incoming = Bytes::adopt(joined(alloc, case.replies)?);
+    let sends = Vec::from_slice(alloc, case.send_fails)?;
+    let receipts = Vec::from_slice(alloc, case.receive_fails)?;
+    let Ok(link) = MemoryLink::new(alloc, room, incoming, piece.max(1), sends, receipts) else {
+        return Err("no memory".into());
+    };
+    match link.keeping_pauses(alloc, pauses) {
+        Ok(link) => Ok(link),
+        Err(_) => Err("no memory".into()),
+    }
+}
+
+// The end of an exclusive page of `/s` that keeps its item and polls at most three times.
+fn end_over<R: Wait + HostTime>(
+    rt: &R,
+    alloc: Global,
+    case: &Case,
+    link: &mut MemoryLink,
+) -> Result<VisitEnd, Fail> {
     let limits = Limits {
         polls: 3,
         ..Limits::default()
@@ -181,16 +187,29 @@ fn check<R: Abort + Wait + HostTime>(
     let Ok(key) = Bytes::copy(alloc, b"/s") else {
         return Err("no memory".into());
     };
-    let incoming = Bytes::adopt(joined(alloc, case.replies)?);
-    let sends = Vec::from_slice(alloc, case.send_fails)?;
-    let receipts = Vec::from_slice(alloc, case.receive_fails)?;
-    let Ok(mut link) = MemoryLink::new(alloc, 4_096, incoming, piece.max(1), sends, receipts) else {
-        return Err("no memory".into());
-    };
     let mut clock = ListClock::new(moments_of(alloc, case.moments)?);
     let mut visit = Visit::new(key, Need::Exclusive, limits);
-    let end = run_visit(rt, alloc, &mut visit, Ending::Keep, &mut link, &mut clock);
+    Ok(run_visit(
+        rt,
+        alloc,
+        &mut visit,
+        Ending::Keep,
+        link,
+        &mut clock,
+    ))
+}
+
+// The visit over replies in such pieces comes to its end.
+fn check<R: Abort + Wait + HostTime>(
+    rt: &R,
+    alloc: Global,
+    case: &Case,
+    piece: u64,
+) -> Result<(), Fail> {
+    let mut link = link_of(alloc, case, piece, 4_096, 16)?;
+    let end = end_over(rt, alloc, case, &mut link)?;
     assert_eq!(rt; end, case.end);
+    assert!(rt; link.pauses() == case.pauses);
     let sent = joined(alloc, case.sent)?;
     assert_eq!(rt;
         str::from_utf8(link.sent()),
@@ -200,12 +219,40 @@ fn check<R: Abort + Wait + HostTime>(
 }
 
 #[test]
-fn each_visit_sends_its_requests_and_comes_to_its_end(rt: HostRuntime) -> Result<(), Fail> {
+fn each_visit_sends_its_requests_pauses_and_comes_to_its_end(rt: HostRuntime) -> Result<(), Fail> {
     let alloc = rt.alloc();
     for case in &CASES {
         for piece in [1, 7, 16_384] {
             check(&rt, alloc, case, piece)?;
         }
+    }
+    Ok(())
+}
+
+#[test]
+fn a_link_keeps_the_first_pauses_that_it_has_room_for(rt: HostRuntime) -> Result<(), Fail> {
+    let alloc = rt.alloc();
+    let kept: [&[u64]; 4] = [&[], &[500], &[500, 500], &[500, 500, 1100]];
+    for (room, pauses) in (0..4).zip(kept.iter()) {
+        for case in CASES.iter().filter(|case| case.pauses.len() == 3) {
+            let mut link = link_of(alloc, case, 16_384, 4_096, room)?;
+            let end = end_over(&rt, alloc, case, &mut link)?;
+            assert_eq!(rt; end, case.end);
+            assert!(rt; link.pauses() == *pauses, "{room}");
+        }
+    }
+    Ok(())
+}
+
+#[test]
+fn a_link_without_room_keeps_what_fits_and_fails(rt: HostRuntime) -> Result<(), Fail> {
+    let alloc = rt.alloc();
+    for room in [0, 1, 53] {
+        let mut link = link_of(alloc, &CASES[0], 16_384, room, 0)?;
+        let end = end_over(&rt, alloc, &CASES[0], &mut link)?;
+        assert_eq!(rt; end, VisitEnd::Over(Outcome::LinkFault), "{room}");
+        assert!(rt; link.sent().len() as u64 == room);
+        assert!(rt; ACQUIRE.as_bytes().starts_with(link.sent()), "{room}");
     }
     Ok(())
 }

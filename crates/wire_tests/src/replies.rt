@@ -3,7 +3,7 @@ ghost use Rattle.std.specs.Prelude.{IfOk, IsTrue, OnOk};
 ghost use Rattle.message_framing.specs.Held.{Held, Reading};
 
 use asp_base::NoMemory;
-use asp_messages::spell_reply;
+use asp_messages::spell_dated;
 use itoa::Buffer;
 use message_framing::MOST_PIECE;
 use reply_reader::{ReplyNext, ReplyReader};
@@ -15,7 +15,7 @@ fn tell(reader: &mut ReplyReader, told: &mut Vec<u8>, most: usize) -> Result<boo
 {
     for _ in 0..most {
         match reader.next() {
-            ReplyNext::Reply(reply) => spell_reply(told, &reply)?,
+            ReplyNext::Reply(reply) => spell_dated(told, &reply)?,
             ReplyNext::Strange { status } => {
                 let mut buffer = Buffer::new();
                 told.extend_from_slice(b"strange ")?;

@@ -1,6 +1,6 @@
 //! The canonical texts of requests, and the plain spellings of asks and replies.
 use asp_base::{Bytes, NoMemory};
-use asp_messages::{Ask, Reply, Request, spell_ask, spell_reply, write_request};
+use asp_messages::{Ask, Reply, Request, spell_ask, spell_dated, spell_reply, write_request};
 use std::alloc::Global;
 use std::test::Fail;
 
@@ -167,6 +167,35 @@ fn replies_have_their_plain_spelling(rt: HostRuntime) -> Result<(), Fail> {
         let mut out = Vec::from_slice(alloc, b">")?;
         spell_reply(&mut out, reply)?;
         assert_eq!(rt; out.as_slice(), *want);
+    }
+    Ok(())
+}
+
+/// The moment of an acquisition, and the spellings of a lock without and with it.
+const LOCKS: [(Option<u64>, &[u8], &[u8]); 3] = [
+    (None, b">locked 2 1", b">locked 2 1 -"),
+    (Some(0), b">locked 2 1", b">locked 2 1 0"),
+    (
+        Some(4_611_686_018_427_387_904),
+        b">locked 2 1",
+        b">locked 2 1 4611686018427387904",
+    ),
+];
+
+#[test]
+fn a_lock_is_spelled_with_and_without_its_moment(rt: HostRuntime) -> Result<(), Fail> {
+    for (since, plain, dated) in LOCKS {
+        let reply = Reply::Locked {
+            cookie: 2,
+            age: 1,
+            since,
+        };
+        let mut out = Vec::from_slice(rt.alloc(), b">")?;
+        spell_reply(&mut out, &reply)?;
+        assert_eq!(rt; out.as_slice(), plain);
+        let mut out = Vec::from_slice(rt.alloc(), b">")?;
+        spell_dated(&mut out, &reply)?;
+        assert_eq!(rt; out.as_slice(), dated);
     }
     Ok(())
 }

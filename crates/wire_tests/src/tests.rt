@@ -3,7 +3,7 @@ use crate::replies::replies_of;
 use crate::requests::requests_of;
 use asp_base::{Bytes, NoMemory};
 use asp_messages::{
-    Ask, Reply, Request, named, reply_body, reply_head, spell_ask, spell_reply, write_request,
+    Ask, Reply, Request, named, reply_body, reply_head, spell_ask, spell_dated, write_request,
 };
 use std::alloc::Global;
 use std::test::Fail;
@@ -15,7 +15,7 @@ const LAST_COOKIE: u64 = 9_223_372_036_854_775_807;
 const LAST_AGE: u64 = 4_611_686_018_427_387_904;
 
 /// Texts of a reply stream, and what is read of them.
-const REPLIES: [(&[u8], &[u8]); 22] = [
+const REPLIES: [(&[u8], &[u8]); 28] = [
     (
         b"HTTP/1.1 200 OK\r\nTimeout:20\r\nX-AspNet-Version: 4.0\r\nContent-Length:0\r\n\r\n",
         b"found 0 20 0 x\nend\n",
@@ -31,7 +31,7 @@ const REPLIES: [(&[u8], &[u8]); 22] = [
     ),
     (
         b"HTTP/1.1 423 Locked\r\nlockage: 04611686018427387904\r\nLOCKCOOKIE: 0\r\n\r\n",
-        b"locked 0 4611686018427387904\nend\n",
+        b"locked 0 4611686018427387904 -\nend\n",
     ),
     (
         b"HTTP/1.1 423 Locked\r\nLockAge: 4611686018427387905\r\nLockCookie: 0\r\n\r\n",
@@ -40,6 +40,36 @@ const REPLIES: [(&[u8], &[u8]); 22] = [
     (
         b"HTTP/1.1 423 Locked\r\nLockAge: 1\r\nLockAge: 1\r\nLockCookie: 0\r\n\r\n",
         b"strange 423\nend\n",
+    ),
+    // The moment of the acquisition is told where it is one; whatever stands there, the reply is
+    // read.
+    (
+        b"HTTP/1.1 423 Locked\r\nLockCookie: 1\r\nLockAge: 2\r\n\r\n",
+        b"locked 1 2 -\nend\n",
+    ),
+    (
+        b"HTTP/1.1 423 Locked\r\nLockCookie: 1\r\nLockAge: 2\r\nLockDate: today\r\n\r\n",
+        b"locked 1 2 -\nend\n",
+    ),
+    (
+        b"HTTP/1.1 423 Locked\r\nLockCookie: 1\r\nLockAge: 2\r\n\
+            LockDate: 635000000000000000\r\n\r\n",
+        b"locked 1 2 635000000000000000\nend\n",
+    ),
+    (
+        b"HTTP/1.1 423 Locked\r\nlockdate: 04611686018427387904\r\nLockCookie: 1\r\n\
+            LockAge: 2\r\n\r\n",
+        b"locked 1 2 4611686018427387904\nend\n",
+    ),
+    (
+        b"HTTP/1.1 423 Locked\r\nLockCookie: 1\r\nLockAge: 2\r\n\
+            LockDate: 4611686018427387905\r\n\r\n",
+        b"locked 1 2 -\nend\n",
+    ),
+    (
+        b"HTTP/1.1 423 Locked\r\nLockCookie: 1\r\nLockAge: 2\r\nLockDate: 1\r\n\
+            LockDate: 1\r\n\r\n",
+        b"locked 1 2 -\nend\n",
     ),
     (b"HTTP/1.1 200 OK\r\n\r\n", b"done\nend\n"),
     (
@@ -116,7 +146,7 @@ fn no_head_breaks_either_reader(rt: HostRuntime) -> Result<(), Fail> {
 fn send_reply(wire: &mut Vec<u8>, want: &mut Vec<u8>, reply: &Reply) -> Result<(), NoMemory> {
     wire.extend_from_slice(reply_head(reply).as_slice())?;
     wire.extend_from_slice(reply_body(reply))?;
-    spell_reply(want, reply)?;
+    spell_dated(want, reply)?;
     want.push(b'\n')?;
     Ok(())
 }

@@ -14,6 +14,7 @@ loop-init g c = (
   tt,
   tt,
   not_begun c.args.ending c.args.visit.now (g.L.Link.told c.args.link.now)
+      (g.L.Link.pauses c.args.link.now)
       (g.C.Clock.told c.args.clock.now) c.new-client.result.reader.bytes.held c.requires.new
       (ap (λ (h : Held). h.held) c.new-client.ensures),
   ap (λ (h : Held). h.is_broken) c.new-client.ensures,
@@ -25,11 +26,13 @@ take_turn-requires-clause-may_turn g c =
     let before : Scene = record {
       visit = c.args.visit.now;
       link = g.L.Link.told c.args.link.now;
+      pauses = g.L.Link.pauses c.args.link.now;
       clock = g.C.Clock.told c.args.clock.now;
     } in
     let now : Scene = record {
       visit = c.loop.visit;
       link = g.L.Link.told c.loop.link;
+      pauses = g.L.Link.pauses c.loop.link;
       clock =
           g.C.Clock.told c.loop.clock;
     } in
@@ -41,12 +44,14 @@ returns-in-Some-take_turn-clause-complete g c tells kept =
     let before : Scene = record {
       visit = c.args.visit.now;
       link = g.L.Link.told c.args.link.now;
+      pauses = g.L.Link.pauses c.args.link.now;
       clock = g.C.Clock.told c.args.clock.now;
     } in
     let after : Scene = record {
       visit = c.take_turn.new.visit;
       link =
           g.L.Link.told c.take_turn.new.link;
+      pauses = g.L.Link.pauses c.take_turn.new.link;
       clock = g.C.Clock.told c.take_turn.new.clock;
     } in
     complete c.args.ending before after c.in-Some-take_turn.end

@@ -9,10 +9,16 @@ invariant-loop g l =
     × IsUnderway l.fn.ending (record {
       visit = l.fn.visit;
       link = g.L.Link.told l.fn.link;
+      pauses = g.L.Link.pauses l.fn.link;
       clock =
           g.C.Clock.told l.fn.clock;
     })
-    (record { visit = l.visit; link = g.L.Link.told l.link; clock = g.C.Clock.told l.clock })
+    (record {
+      visit = l.visit;
+      link = g.L.Link.told l.link;
+      pauses = g.L.Link.pauses l.link;
+      clock = g.C.Clock.told l.clock;
+    })
     l.ending l.client.reader.bytes.held
     × (l.client.reader.bytes.is_broken ≡ false)
     × (g.L.Link.faults l.fn.link ≤ g.L.Link.faults l.link)

@@ -1,0 +1,41 @@
+-- What a reader looked at when it gave a message.
+use Rattle.std.proofs.Common.{◌≡◌, ℕ, ◌+◌, ◌*◌, ◌≤◌, List, [], ◌++◌, length, refl, sym, ap, subst, ◌∙◌, arith}
+use Rattle.std.proofs.lemmas.List.{length-append}
+use Rattle.asp_messages.specs.declared.request.Ask.{Ask}
+use Rattle.asp_messages.specs.declared.request.Ask.TheVariants.{Read, Acquire, Release, Write, Remove, Reset}
+use Rattle.asp_messages.specs.declared.request.Message.{Message}
+use Rattle.asp_messages.specs.declared.request.Message.TheVariants.{Fit, Unfit}
+use Rattle.asp_messages.specs.Fields.{request_fields}
+use Rattle.asp_messages.specs.RequestSpelling.{message_of}
+use Rattle.asp_messages.specs.RequestText.{content_of}
+use Rattle.message_framing.specs.Held.{Reading}
+use Rattle.request_reader.specs.Next.{TakesCounted}
+use Rattle.request_reader.specs.Requests.{filled, filled_ask}
+use Rattle.request_reader.specs.RequestLaws.{message-filled}
+use Rattle.wire_tests.specs.Counts.{content, LooksTwice}
+
+ask-content : (ask : Ask) (body : List ℕ) → length (content_of (filled_ask ask body)) ≤ length body
+ask-content Read body = omega arith
+ask-content Acquire body = omega arith
+ask-content (Release cookie) body = omega arith
+ask-content (Write old minutes fresh cookie) body = omega arith
+ask-content (Remove cookie) body = omega arith
+ask-content Reset body = omega arith
+
+filled-content : (m : Message) (body : List ℕ) → length (content (filled m body)) ≤ length body
+filled-content (Fit request) body = ask-content request.ask body
+filled-content Unfit body = omega arith
+
+-- the content of a message is no longer than the body behind its head
+pub looks-twice : (old new : Reading) (ticks : ℕ) (m : Message) → TakesCounted old new ticks m
+    → LooksTwice old new ticks (length (content m))
+looks-twice old new ticks m t =
+    let s = t.taken.spells in
+    let short : length (content m) ≤ length s.body =
+    subst (λ k. length (content k) ≤ length s.body)
+    (message-filled s.head.method s.head.target (request_fields s.head) s.body
+    ∙ sym s.message_is)
+    (filled-content (message_of s.head.method s.head.target (request_fields s.head) []) s.body) in
+    let held = ap length t.taken.held ∙ length-append t.taken.front new.bytes.held in
+    let front = ap length s.framed.bytes_are ∙ length-append s.framed.front s.body in
+    omega (arith, short, held, front, t.counted, t.forgotten)

@@ -1,0 +1,18 @@
+-- How often a reader looks at the bytes of heads.
+use Rattle.std.specs.Prelude.{ℕ, ◌+◌, ◌*◌, ◌≤◌, List, [], length}
+use Rattle.asp_messages.specs.declared.request.Message.{Message}
+use Rattle.asp_messages.specs.declared.request.Message.TheVariants.{Fit, Unfit}
+use Rattle.asp_messages.specs.RequestText.{content_of}
+use Rattle.message_framing.specs.Held.{Reading}
+
+-- the content that a message brings
+abbrev pub content : Message → List ℕ
+content (Fit request) = content_of request.ask
+content Unfit = []
+
+-- what was looked at, with what was spent before, is at most twice the bytes that were taken but
+-- for those of content, with what is spent on those that are held
+abbrev pub LooksTwice : Reading → Reading → ℕ → ℕ → Type 0
+LooksTwice old new ticks content =
+    ticks + old.spent + 2 * (content + length new.bytes.held)
+    ≤ new.spent + 2 * length old.bytes.held

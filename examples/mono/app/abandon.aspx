@@ -1,0 +1,5 @@
+<%@ Page Language="C#" EnableSessionState="true" %><%
+Session.Abandon();
+Response.ContentType = "text/plain";
+Response.Write("abandoned\n");
+%>
