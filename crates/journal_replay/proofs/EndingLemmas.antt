@@ -230,16 +230,20 @@ module _ (most : ℕ) (first now : Replayer) (f : Flow) where
   pub judged-complete : (told : Option (List ℕ × List ℕ)) (end : End)
       → IfFewer told most (IsComplete ghosts first now f end)
       → (profile : Profile) (place : ℕ) (list : List Entry)
-      → TellsJournal told most profile place list → IsStatusOf (status_number end) profile place list
+      → TellsJournal told most profile place list → IsStatusOf (status_number end) profile place
+      list
   judged-complete None end complete profile place list tells = absurd tells
   judged-complete (Some told) (ends.Over verdict) complete profile place list tells =
       let (whole, last, over, wrote) = complete tells.0 in
       let found = found_of first now told.1 verdict whole last over in
       status_judged told.1 verdict found.0 found.1 profile place list tells.1
   judged-complete (Some told) ends.NoMemory complete profile place list tells = inr refl
-  judged-complete (Some told) ends.ReadFault complete profile place list tells = absurd (complete tells.0)
-  judged-complete (Some told) ends.WriteFault complete profile place list tells = absurd (complete tells.0)
-  judged-complete (Some told) ends.Long complete profile place list tells = absurd (complete tells.0)
+  judged-complete (Some told) ends.ReadFault complete profile place list tells =
+      absurd (complete tells.0)
+  judged-complete (Some told) ends.WriteFault complete profile place list tells =
+      absurd (complete tells.0)
+  judged-complete (Some told) ends.Long complete profile place list tells =
+      absurd (complete tells.0)
 
   pub refused-complete : (told : Option (List ℕ × List ℕ)) (end : End)
       → IfFewer told most (IsComplete ghosts first now f end)

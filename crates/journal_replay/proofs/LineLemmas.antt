@@ -91,11 +91,13 @@ few_taken text r checker profile has short begun =
 -- ---- one line
 
 -- the first line was taken
-pub head_at : (text : List ℕ) (profile : Profile) (place : ℕ) (old new : Reading) (checker checker' : Checked)
+pub head_at : (text : List ℕ) (profile : Profile) (place : ℕ) (old new : Reading) (checker checker'
+    : Checked)
     → old.begun ≡ None → HasReplayed text old checker
     → ((taken : Taken) → HasRead text taken old
     → HasRead text (taken_with (nexts.Head profile place) taken) new) → new.is_broken ≡ false
-    → checker'.known.profile ≡ profile → checker'.first ≡ place → HasTaken checker' [] → HasReplayed text new checker'
+    → checker'.known.profile ≡ profile → checker'.first ≡ place → HasTaken checker' []
+    → HasReplayed text new checker'
 head_at text profile place old new checker checker' begun has reads whole in_profile first empty =
     at has.taken has.read
   where

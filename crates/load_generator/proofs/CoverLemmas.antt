@@ -68,7 +68,8 @@ Covers ks items = (key : List ℕ) → items key ≢ None → is_among key ks �
 
 -- the items after an entry
 abbrev next_items : (List ℕ → Option Item) → Marked → List ℕ → Option Item
-next_items items m key = cond (is_deed_of key m.1.deed) (after_entry newest (items key) m) (items key)
+next_items items m key = cond (is_deed_of key m.1.deed) (after_entry newest (items key) m) (items
+    key)
 
 -- how many deeds are requests, and how many are expiries
 abbrev asks : Deed → ℕ
@@ -117,7 +118,8 @@ covered items ks m (Expired gone) is covers stands = (without gone ks, cover, om
   where
     there : items gone ≢ None
     there = dead_is_there (items gone) m.1.moment
-        (subst (λ d. DeedStands newest (items gone) m.0 d m.1) is (stands gone (bytes_eq-refl gone))).0
+        (subst (λ d. DeedStands newest (items gone) m.0 d m.1) is (stands gone (bytes_eq-refl
+        gone))).0
 
     fewer : length (without gone ks) + 1 ≡ length ks
     fewer = length-without gone ks (covers gone there)
@@ -142,11 +144,13 @@ covered items ks m Looked is covers stands = (ks, cover, omega arith)
   where
     cover : Covers ks (next_items items m)
     cover key some = covers key (λ none. some
-        (ap (λ b. cond b (after_entry newest (items key) m) (items key)) (ap (is_deed_of key) is) ∙ none))
+        (ap (λ b. cond b (after_entry newest (items key) m) (items key)) (ap (is_deed_of key) is) ∙
+        none))
 
 lead_on : (b : Bool) (item : Option Item) (m : Marked) (ms : List Marked)
     → Lead newest item (cond b (m ∷ ms) ms)
-    → (b ≡ true → DeedStands newest item m.0 m.1.deed m.1) × Lead newest (cond b (after_entry newest item m) item) ms
+    → (b ≡ true → DeedStands newest item m.0 m.1.deed m.1) × Lead newest (cond b (after_entry newest
+    item m) item) ms
 lead_on true item m ms lead = (λ _. lead.0, lead.1)
 lead_on false item m ms lead = (λ is. cc, lead)
 

@@ -89,10 +89,10 @@ EndsLoad n sink end made =
     × TakesFront sink end.sink (load_text made.requests made.removals))
     ⊎ ((end.status ≡ 6) × (end.sink ≡ sink)))
 
--- A load: the requests by the generator's numbers, then items that expired, and a last look, by
--- one look more than requests at most. Each of these entries has its cause, and the keeper that is
--- handed back has the items and the count after them. (CanCount says which counts of faults the keeper's type can have; the sink
--- had taken so much before.)
+-- A load: the requests by the generator's numbers, then items that expired, and a last look, by one
+-- look more than requests at most. Each of these entries has its cause, and the keeper that is
+-- handed back has the items and the count after them. (CanCount says which counts of faults the
+-- keeper's type can have; the sink had taken so much before.)
 pub record IsLoad (CanCount : ℕ → Type 0) (load : Load) (sink : Option (List ℕ)) (end : LoadEnd)
     : Type 0 where
   pub requests : List Entry

@@ -120,7 +120,8 @@ module _ (turns : List Turn) (number : ℕ) (page : Page) (cookie : ℕ)
     abbrev told : ToldLock
     told = record { cookie = cookie; seconds = met.age }
 
-    in_force : IsInForceFor newest nothing 0 page.terms.key told (history place.before) place.turn.moment
+    in_force : IsInForceFor newest nothing 0 page.terms.key told (history place.before)
+        place.turn.moment
     in_force =
         lock_in_the_way newest nothing 0 (history turns) legal page.terms.key (history place.before)
         (entry_of place.turn) cookie met.age met.since

@@ -93,7 +93,8 @@ answer-runs terms count w Reset (Reply Missing) t content first e u = absurd cc
 answer-runs terms count w Reset answer t content first e u = absurd cc
 answer-runs terms count w (Release own) (Reply done_reply) t content first e u = absurd cc
 answer-runs terms count w (Release own) (Reply Missing) t content first e u = absurd cc
-answer-runs terms count w (Release own) (Reply (Locked cookie age since)) t content first e u = absurd cc
+answer-runs terms count w (Release own) (Reply (Locked cookie age since)) t content first e u =
+    absurd cc
 answer-runs terms count w (Release own) answer t content first e u = absurd cc
 answer-runs terms count w (Write body minutes fresh own) answer t content first e u =
     absurd (refused-no_run answer content first e)

@@ -1,7 +1,7 @@
 //! Connections served by the words of a command line.
-ghost use Rattle.std.specs.Prelude.{◌≡◌, ◌≢◌, ◌≤◌, ◌↔◌, ◌⊎◌, [], All, None, Some, length, map, string_bytes};
+ghost use Rattle.std.specs.Prelude.{◌≡◌, ◌≢◌, ◌≤◌, ◌↔◌, ◌⊎◌, ◌^◌, ◌-◌, [], All, None, Some, length, map, string_bytes};
 ghost use Rattle.state_store.specs.Fresh.{IsNewKeeper};
-ghost use Rattle.state_store.specs.Passes.{first_place, shards_of};
+ghost use Rattle.state_store.specs.Passes.{first_cookie, first_place, last_cookie, shards_of};
 ghost use Rattle.stream_server.specs.Serving.{HasFailed, IfStored, IsServed, IsUntouched, NoneFailed};
 ghost use Rattle.serve_command.specs.Words.{serve_of, workers_in};
 
@@ -55,6 +55,7 @@ pub fn serve<
     // Else each worker served the connections of its door, and all passes have one front.
     ensures served { (result.status ≡ 0) ⊎ (result.status ≡ 9) → IfStored result.store (λ store.
         (shards_of store ≡ length keepers.items) × (first_place store ≡ 0)
+        × (first_cookie store ≡ 1) × (last_cookie store ≡ 2 ^ 63 - 1)
         × IsServed (record { door = D.told; faults = D.faults; clock = C.told }) store
         workers.old workers.new result.passes.items) }
     ensures failed { result.status ≡ 9 → HasFailed workers.new }

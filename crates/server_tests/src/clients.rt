@@ -1,6 +1,6 @@
 //! Clients that add one to a number under its lock, and what they hear.
 ghost use Rattle.std.specs.Prelude.{◌≡◌, None, ⊤, IfOk, IfSome, IfNone, OnOk, OnErr};
-ghost use Rattle.asp_base.specs.Causes.{Rose};
+ghost use Rattle.asp_base.specs.Causes.{HasCause};
 ghost use Rattle.stream_server.specs.Doors.{untold};
 
 use asp_base::{Bytes, Clock, Failed, LAST_MOMENT, NoMemory, Sink, Source};
@@ -210,7 +210,7 @@ impl<'a> Door for Clients<'a> {
         ensures room { IfOk result (λ o. IfSome o (λ _. ⊤)) }
         ensures none { IfOk result (λ o. IfNone o (⊤ × (untold ≡ untold))) }
         ensures failed { OnErr result (untold ≡ untold) }
-        ensures cause { OnErr result (Rose self.old.faults self.new.faults) }
+        ensures cause { HasCause self.old.faults self.new.faults result }
         ensures count { OnOk result (self.new.faults ≡ self.old.faults) }
     {
         Ok(self.coming.pop())

@@ -2,8 +2,10 @@
 
 use crate::memory::{DONE, MISSING, joined};
 use crate::serving::serve_new;
+use crate::sockets::listen;
 use asp_base::{Failed, HostClock, OpenGate};
 use std::alloc::Global;
+use std::io;
 use std::io::{Read, Write};
 use std::net::{Ipv4Addr, Net, Shutdown, SocketAddr, TcpListener, TcpStream};
 use std::process::Abort;
@@ -14,13 +16,9 @@ use std::thread::{Threads, join, sleep};
 use std::time::Duration;
 use stream_server::{Door, StreamEnd, TcpDoor, Worker};
 
-/// A listener on a port of the machine itself that was free, and its address.
-fn listen<R: Net<Listener = TcpListener, Stream = TcpStream>>(
-    rt: &R,
-) -> Result<(TcpListener, SocketAddr), Fail> {
-    let listener = TcpListener::bind(rt, SocketAddr::from((Ipv4Addr::LOCALHOST, 0)))?;
-    let address = listener.local_addr()?;
-    Ok((listener, address))
+/// A connection to a port of the machine itself.
+fn connect<R: Net<Stream = TcpStream>>(rt: &R, port: u16) -> io::Result<TcpStream> {
+    TcpStream::connect(rt, SocketAddr::from((Ipv4Addr::LOCALHOST, port)))
 }
 
 /// One worker serves the connections of the door, which counts no failure. `None` is want of
@@ -61,8 +59,8 @@ fn say(peer: &TcpStream, sent: &[u8]) -> Option<()> {
 /// How long the longest content is, in bytes.
 const LONGEST: usize = 4_194_304;
 
-/// A write of the longest content, and eight reads of it: more than the system keeps for a peer that
-/// reads nothing.
+/// A write of the longest content, and eight reads of it: more than the system keeps for a peer
+/// that reads nothing.
 fn many_asks(alloc: Global) -> Result<Vec<u8>, Fail> {
     let head = "PUT /large HTTP/1.1\r\nContent-Length: 4194304\r\n\r\n";
     let mut sent = joined(alloc, &[head])?;
@@ -77,12 +75,12 @@ fn many_asks(alloc: Global) -> Result<Vec<u8>, Fail> {
 fn ask_behind<R: Net<Stream = TcpStream>>(
     rt: &R,
     alloc: Global,
-    address: SocketAddr,
+    port: u16,
     sent: &[u8],
 ) -> Option<Vec<u8>> {
-    let mut rude = TcpStream::connect(rt, address).ok()?;
+    let mut rude = connect(rt, port).ok()?;
     rude.write_all(sent).ok()?;
-    let good = TcpStream::connect(rt, address).ok()?;
+    let good = connect(rt, port).ok()?;
     say(&good, b"GET /a HTTP/1.1\r\n\r\n")?;
     let heard = hear(alloc, good);
     rude.shutdown(Shutdown::Both).ok()?;
@@ -92,13 +90,13 @@ fn ask_behind<R: Net<Stream = TcpStream>>(
 #[test]
 fn a_peer_that_never_reads_holds_its_worker_for_a_while(rt: HostRuntime) -> Result<(), Fail> {
     let alloc = rt.alloc();
-    let (listener, address) = listen(&rt)?;
+    let (listener, port) = listen(&rt)?;
     let sent = many_asks(alloc)?;
     let door = TcpDoor::with_write_timeout(&listener, 2, Duration::from_millis(200));
     let (served, heard) = join(
         &rt,
         || serve_door(&rt, alloc, door),
-        || ask_behind(&rt, alloc, address, &sent),
+        || ask_behind(&rt, alloc, port, &sent),
     );
     served.ok_or("no memory")?;
     assert!(rt; heard.ok_or("no answer")?.as_slice() == MISSING.as_bytes());
@@ -135,10 +133,10 @@ fn hear_later<R: HostTime>(
 #[test]
 fn a_lack_of_descriptors_is_waited_out(rt: HostRuntime) -> Result<(), Fail> {
     let alloc = rt.alloc();
-    let (listener, address) = listen(&rt)?;
+    let (listener, port) = listen(&rt)?;
     // A connection takes three: its own, and one for each of its ends.
     for left in 0..3 {
-        let peer = TcpStream::connect(&rt, address)?;
+        let peer = connect(&rt, port)?;
         say(&peer, b"PUT /a HTTP/1.1\r\nContent-Length: 1\r\n\r\nx").ok_or("not sent")?;
         let mut taken = take_descriptors(alloc, &listener)?;
         taken.truncate(taken.len().saturating_sub(left));
@@ -149,14 +147,17 @@ fn a_lack_of_descriptors_is_waited_out(rt: HostRuntime) -> Result<(), Fail> {
             || hear_later(&rt, alloc, taken, peer),
         );
         served.ok_or("no memory")?;
-        assert!(rt; heard.ok_or("no answer")?.as_slice() == DONE.as_bytes(), "{left}");
+        assert!(rt;
+            heard.ok_or("no answer")?.as_slice() == DONE.as_bytes(),
+            "{left}"
+        );
     }
     Ok(())
 }
 
 #[test]
 fn what_does_not_pass_is_a_failure_of_the_door(rt: HostRuntime) -> Result<(), Fail> {
-    let (listener, address) = listen(&rt)?;
+    let (listener, port) = listen(&rt)?;
     let mut door = TcpDoor::new(&listener, 1);
     // To accept from a listener that doesn't wait, where nobody asks, fails.
     listener.set_nonblocking(true)?;
@@ -164,7 +165,7 @@ fn what_does_not_pass_is_a_failure_of_the_door(rt: HostRuntime) -> Result<(), Fa
         assert_eq!(rt; door.next(&rt).err(), Some(Failed));
     }
     // The door is as good as before, and never fails behind its last connection.
-    let peer = TcpStream::connect(&rt, address)?;
+    let peer = connect(&rt, port)?;
     let conn = door.next(&rt).ok().flatten().ok_or("no connection")?;
     peer.shutdown(Shutdown::Both)?;
     door.done(conn, StreamEnd::Closed);

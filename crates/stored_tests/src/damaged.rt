@@ -37,8 +37,8 @@ fn is_no_key(alloc: Global, values: &str, zeros: usize) -> Result<bool, Fail> {
     Ok(found == Err(KeepError::Fault) && keeper.faults() == 1)
 }
 
-/// The rows have the columns `key`, `body`, `minutes`, `fresh`, `cookie`, `since`, `touched`, `ends`
-/// and `expiry`. The end of most is the last of all, 9223372036854775807.
+/// The rows have the columns `key`, `body`, `minutes`, `fresh`, `cookie`, `since`, `touched`,
+/// `ends` and `expiry`. The end of most is the last of all, 9223372036854775807.
 #[test]
 fn rows_out_of_range_are_counted_faults(rt: HostRuntime) -> Result<(), Fail> {
     let alloc = rt.alloc();

@@ -10,8 +10,8 @@ use crate::{Consumer, End, Step};
 use asp_base::{Failed, NoMemory, Sink};
 
 /// Lets the consumer do what it can, and writes what each thing gives before the next, with `text`
-/// as the room for what goes out in one call. `None` where
-/// more bytes are wanted, else how the run ends.
+/// as the room for what goes out in one call. `None` where more bytes are wanted, else how the run
+/// ends.
 pub fn work_off<C: Consumer, T: Sink>(
     consumer: &mut C,
     more: bool,

@@ -7,7 +7,7 @@ ghost use Rattle.asp_messages.specs.RequestSpelling.{SpellsRequest};
 ghost use Rattle.asp_messages.specs.Stream.{HasNoMessage, IsHopeless};
 ghost use Rattle.state_store.specs.Passes.{IsPassOf, shards_of, caller_of, view_in};
 ghost use Rattle.stream_server.specs.Callers.{caller_with};
-ghost use Rattle.stream_server.specs.Progress.{IfFit, AnswersOne, AnswersHeld};
+ghost use Rattle.stream_server.specs.Progress.{IfFit, AnswersOne, AnswersHeld, AnswersInPart};
 ghost use Rattle.stream_server.specs.Streams.{IsBadIfUnfit, LeavesIn, asked_for};
 
 use arrayvec::ArrayVec;
@@ -126,7 +126,7 @@ pub(crate) fn answer_held<R: Wait + HostTime, K: Keeper + Drop, T: Sink, C: Cloc
         (caller_with store.now pass.old (C.told clock.old))
         (caller_with store.now pass.new (C.told clock.new)) }
     ensures in_part { result ≡ Stop.WriteFault → (rest : List ℕ)
-        × AnswersHeld (TakesFront (T.taken sink.old) (T.taken sink.new)) stream.old.reader.held rest
+        × AnswersInPart (T.taken sink.old) (T.taken sink.new) stream.old.reader.held rest
         (caller_with store.now pass.old (C.told clock.old))
         (caller_with store.now pass.new (C.told clock.new)) }
     ensures fault { result ≡ Stop.WriteFault → Rose (T.faults sink.old) (T.faults sink.new) }

@@ -1,7 +1,7 @@
 //! Workers that serve over one store, and what they leave.
-ghost use Rattle.std.specs.Prelude.{◌≡◌, ◌≢◌, ◌≤◌, ◌⊎◌, All, length, None, [], IsTrue, IsFalse};
+ghost use Rattle.std.specs.Prelude.{◌≡◌, ◌≢◌, ◌≤◌, ◌⊎◌, ◌^◌, ◌-◌, All, length, None, [], IsTrue, IsFalse};
 ghost use Rattle.state_store.specs.Fresh.{IsNewKeeper};
-ghost use Rattle.state_store.specs.Passes.{first_place, shards_of};
+ghost use Rattle.state_store.specs.Passes.{first_cookie, first_place, last_cookie, shards_of};
 ghost use Rattle.stream_server.specs.Serving.{IfStored, IsServed, IsUntouched, HasFailed, NoneFailed};
 
 use crate::meeting::finish;
@@ -96,6 +96,7 @@ pub fn serve_all<
     // Else each worker served the connections of its door, and all passes have one front.
     ensures served { result.status ≢ 6 → IfStored result.store (λ store.
         (shards_of store ≡ length keepers.items) × (first_place store ≡ 0)
+        × (first_cookie store ≡ 1) × (last_cookie store ≡ 2 ^ 63 - 1)
         × IsServed (record { door = D.told; faults = D.faults; clock = C.told }) store
         workers.old workers.new result.passes.items) }
     ensures failed { result.status ≡ 9 → HasFailed workers.new }

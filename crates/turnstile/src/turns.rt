@@ -104,9 +104,8 @@ impl<S: Stands + Drop> Turnstile<S> {
     /// this pass from then on.
     ///
     /// A caller takes a ticket only where it sees that it would be served at once, so a caller that
-    /// waits, and may not run, holds up nobody.
-    /// The order is that in which tickets are taken, and not that of the calls. After 100 looks a
-    /// caller sleeps until a turn is left.
+    /// waits, and may not run, holds up nobody. The order is that in which tickets are taken, and
+    /// not that of the calls. After 100 looks a caller sleeps until a turn is left.
     pub fn enter<R: Wait>(&self, rt: &R, pass: &mut TurnPass<S>) -> Result<Turn<S>, Spent>
         requires home { pass_home pass.old ≡ turnstile_id self.now }
         requires outside { has_turn pass.old ≡ false }

@@ -157,7 +157,12 @@ forced-knows : (terms : Terms) (locked cookie t : ℕ) (answer : Heard) (past : 
     (heard t (record { key = terms.key; ask = ask }) answer ∷ past))
 forced-knows terms locked cookie t (Reply done_reply) past n e none = (refl, n, e, none)
 forced-knows terms locked cookie t (Reply Missing) past n e none = (refl, n, e, none)
-forced-knows terms locked cookie t (Reply (Locked other age since)) past n e none = (refl, n, e, none)
+forced-knows terms locked cookie t (Reply (Locked other age since)) past n e none = (
+  refl,
+  n,
+  e,
+  none,
+)
 forced-knows terms locked cookie t answer past n e none = tt
 
 -- the answer to the request of the page's end

@@ -266,7 +266,8 @@ met-of terms (lost ∷ past) t cookie follows not_ended e =
 
 -- after such an event a release is sent
 met-acts : (key : List ℕ) (need : Need) (limits : Limits) (earlier : List Event)
-    (moment age t cookie : ℕ) (since : Option ℕ) → need ≢ Off → has_ended earlier ≡ false → limits.execution_secs < age
+    (moment age t cookie : ℕ) (since : Option ℕ) → need ≢ Off → has_ended earlier ≡ false
+    → limits.execution_secs < age
     →
     (let terms : Terms = record { key = key; need = need; limits = limits } in
     let past : List Event = heard moment (record { key = key; ask = ask_for need })

@@ -16,7 +16,7 @@ returns-clause-answered g c =
     c.args.message c.now-t.result c.reply_to-reply.result old new
     c.as_slice.result.now c.reply_body.result.now c.answer-head.result c.answer-head.ensures.head
     c.as_slice.ensures c.reply_body.ensures
-    (answered c.args.message c.now-t.result c.reply_to-reply.result old new reply.caller refl
+    (answered c.args.message c.now-t.result c.reply_to-reply.result old new reply.caller refl refl
     c.now-t.ensures.gives reply.unfit reply.leaves)
     c.write_text.ensures.taken
 
@@ -31,6 +31,6 @@ returns-clause-in_part g c =
     c.args.message c.now-t.result c.reply_to-reply.result old new
     c.as_slice.result.now c.reply_body.result.now c.answer-head.result c.answer-head.ensures.head
     c.as_slice.ensures c.reply_body.ensures
-    (answered c.args.message c.now-t.result c.reply_to-reply.result old new reply.caller refl
+    (answered c.args.message c.now-t.result c.reply_to-reply.result old new reply.caller refl refl
     c.now-t.ensures.gives reply.unfit reply.leaves)
     c.write_text.ensures.in_part

@@ -18,7 +18,8 @@ returns-in-Fit-clause-leaves g c shard =
     (view_in old shard) (view_in new shard)) (sym c.in-Fit.is)
     (leaves_in shards call c.in-Fit.request c.ask.result.reply (view_in old) (view_in new) shard
     (leaves_one call c.in-Fit.request c.ask.result.reply c.ask.result.place _ _
-    c.ask.ensures.asked c.ask.ensures.no_place c.ask.ensures.places_out c.ask.ensures.stays_spent)
+    c.ask.ensures.asked c.ask.ensures.no_place c.ask.ensures.places_out c.ask.ensures.stays_spent
+    (c.ask.ensures.never_falls _) (c.requires.pass.own _))
     c.ask.ensures.others)
 
 pub returns-in-Unfit-clause-leaves : goal.returns-in-Unfit-clause-leaves

@@ -26,6 +26,8 @@ returns-clause-served g c = λ _.
     let seated = c.in-Ok-give_passes.ensures in (
       c.in-Ok-new.ensures.shards,
       c.in-Ok-new.ensures.place,
+      c.in-Ok-new.ensures.first_cookie,
+      c.in-Ok-new.ensures.last_cookie,
       subst (λ l. IsServed (record {
         door = g.D.Door.told;
         faults = g.D.Door.faults;

@@ -59,9 +59,9 @@ loop-preserved g c =
           (record {
             number = swept.caller;
             shards = refl;
+            first_place = refl;
             moment = c.now-t.result;
             gave = c.now-t.ensures.gives;
-            first_place = _;
             count = c.sweep.result;
             sweeps = swept.sweeps;
           });

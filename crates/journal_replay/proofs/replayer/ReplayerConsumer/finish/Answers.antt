@@ -12,9 +12,12 @@ returns-in_ok-write_judgement-in-None-clause-over c = λ first taken due went. (
       c.args.self.now.checker
       (c.write_judgement.new.out.items ++ [])
       c.in-None.ensures.journal c.verdict-judgement.ensures.judges c.verdict_of.ensures
-      (line_only c.write_judgement.new.out.items (judgement_line c.args.self.now.checker.known.profile c.verdict-judgement.result.now)
+      (line_only c.write_judgement.new.out.items (judgement_line
+      c.args.self.now.checker.known.profile c.verdict-judgement.result.now)
       (c.in_ok-write_judgement-in-None.ensures.ok
-      ∙ ap (λ v. c.args.self.now.line.items ++ judgement_line v c.verdict-judgement.result.now) c.profile.ensures
-      ∙ ap (λ out. out ++ judgement_line c.args.self.now.checker.known.profile c.verdict-judgement.result.now) went.2))
+      ∙ ap (λ v. c.args.self.now.line.items ++ judgement_line v c.verdict-judgement.result.now)
+      c.profile.ensures
+      ∙ ap (λ out. out ++ judgement_line c.args.self.now.checker.known.profile
+      c.verdict-judgement.result.now) went.2))
       went.0,
 )

@@ -14,7 +14,8 @@ pub returns-in-Head-clause-did : goal.returns-in-Head-clause-did
 returns-in-Head-clause-did c = λ is first taken due went.
     let took = c.in-Head.ensures.head in (
       (
-        head_at taken c.in-Head.profile c.in-Head.place c.args.self.now.reader c.next.new.self c.args.self.now.checker
+        head_at taken c.in-Head.profile c.in-Head.place c.args.self.now.reader c.next.new.self
+            c.args.self.now.checker
             c.new.result took.1 went.0 (c.in-Head.ensures.reads taken) took.2.is_whole
             c.new.ensures.profile c.new.ensures.first c.new.ensures.taken,
         none_more due c.args.self.now.line.items went.1 went.2,
