@@ -4,7 +4,7 @@ _asp_state() {
     local command=${COMP_WORDS[1]}
     local commands='serve visit pipe trace replay drive load id'
     if [ "$COMP_CWORD" -eq 1 ]; then
-        mapfile -t COMPREPLY < <(compgen -W "$commands --help --version" -- "$word")
+        mapfile -t COMPREPLY < <(compgen -W "$commands --help --version --build --unproved" -- "$word")
         return
     fi
     case $command:$COMP_CWORD in
@@ -15,7 +15,7 @@ _asp_state() {
             ;;
         visit:4) mapfile -t COMPREPLY < <(compgen -W 'exclusive readonly off' -- "$word") ;;
         visit:5) mapfile -t COMPREPLY < <(compgen -W 'save keep abandon' -- "$word") ;;
-        --help:2) mapfile -t COMPREPLY < <(compgen -W "$commands" -- "$word") ;;
+        --help:2 | --unproved:2) mapfile -t COMPREPLY < <(compgen -W "$commands" -- "$word") ;;
         *:2) mapfile -t COMPREPLY < <(compgen -W '--help' -- "$word") ;;
         *) COMPREPLY=() ;;
     esac
