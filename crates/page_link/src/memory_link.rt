@@ -12,7 +12,8 @@ use std::marker::Model;
 use std::rt::Clock as HostTime;
 
 /// A link that keeps what is sent in room that it has from the start, gives listed bytes, at most
-/// `piece` a receipt, and fails the listed sends and receipts, and a send that finds no room.
+/// `piece` a receipt, and fails the listed sends and receipts, and a send that finds no room. No
+/// time passes in its pauses.
 #[derive(Debug, Drop)]
 pub struct MemoryLink {
     sent: Vec<u8>,
@@ -229,6 +230,8 @@ impl Link for MemoryLink {
     {
         if self.pause_room > 0 {
             self.pause_room -= 1;
+
+            // There is room, so this takes no memory.
             let _kept = self.pauses.push(until);
         }
     }
