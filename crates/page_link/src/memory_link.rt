@@ -198,8 +198,8 @@ impl Link for MemoryLink {
         ensures count { IfOk result (λ n. n ≡ receipt_count self.old buf.old) }
         ensures number { self.new.receipts ≡ one_more self.old.receipts }
 
-        // Each failure is counted, and nothing else is; sends are not numbered, and what it was made
-        // for stays.
+        // Each failure is counted, and nothing else is; sends are not numbered, and what it was
+        // made for stays.
         ensures counted { MatchResult result (λ _. self.new.faults ≡ self.old.faults)
             (λ _. self.new.faults ≡ one_more self.old.faults) }
         ensures sends { self.new.sends ≡ self.old.sends }
