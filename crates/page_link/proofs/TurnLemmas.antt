@@ -110,7 +110,12 @@ module _ (page : Ending) (before : Scene) (visit visit' : VisitState)
         (record { visit = visit; link = link'; pauses = pauses'; clock = clock' }) kept held
     went-paused until same keeps acts =
         goes_on page before (record { visit = visit; link = link; pauses = pauses; clock = clock })
-        (record { visit = visit; link = link'; pauses = pauses'; clock = clock' }) kept kept held held
+        (record {
+          visit = visit;
+          link = link';
+          pauses = pauses';
+          clock = clock';
+        }) kept kept held held
         run
         (paused t until) (record {
           terms = refl;
@@ -140,7 +145,12 @@ module _ (page : Ending) (before : Scene) (visit visit' : VisitState)
     went-ran ending told terms past steps runs =
         let same = kept-is (has_ended (past_of page run.turns)) page ending (told ∙ run.kept_is) in
         goes_on page before (record { visit = visit; link = link; pauses = pauses; clock = clock })
-        (record { visit = visit'; link = link; pauses = pauses; clock = clock' }) kept None held held
+        (record {
+          visit = visit';
+          link = link;
+          pauses = pauses;
+          clock = clock';
+        }) kept None held held
         run (ran t)
         (record {
           terms = terms;
@@ -246,7 +256,12 @@ module _ (page : Ending) (before : Scene) (visit visit' : VisitState)
     pub ended-over : (outcome : Outcome) → (outcome ≡ LinkFault → ⊥)
         → ((past : List Event) → HasPast visit past → over outcome ≡ act_of visit.terms past t)
         → IsVisit page before
-        (record { visit = visit; link = link; pauses = pauses'; clock = clock' }) (ends.Over outcome)
+        (record {
+          visit = visit;
+          link = link;
+          pauses = pauses';
+          clock = clock';
+        }) (ends.Over outcome)
     ended-over outcome sound acts =
         let behind : past_of page run.turns ≡ past_of page run.turns ++ loss_of_outcome outcome =
         sym (ap (λ l. past_of page run.turns ++ l) (no_loss-over outcome sound)
@@ -275,7 +290,12 @@ module _ (page : Ending) (before : Scene) (visit visit' : VisitState)
         → visit'.terms ≡ visit.terms → ((past : List Event) → HasPast visit past
         → HasPast visit' (past ++ lost ∷ []))
         → IsVisit page before
-        (record { visit = visit'; link = link'; pauses = pauses'; clock = clock' }) (ends.Over LinkFault)
+        (record {
+          visit = visit';
+          link = link';
+          pauses = pauses';
+          clock = clock';
+        }) (ends.Over LinkFault)
     ended-lost request (part, received, front, exchanged, none) acts terms past =
         ends_so page before (record { visit = visit; link = link; pauses = pauses; clock = clock })
         (record { visit = visit'; link = link'; pauses = pauses'; clock = clock' }) kept held run

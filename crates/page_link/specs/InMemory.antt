@@ -2,8 +2,8 @@
 use Rattle.std.specs.Prelude.{ℕ, ◌<◌, ◌⊎◌, List, length, min, Contains}
 
 -- A link: the bytes sent, how many more it has room for, the bytes to be received and the most of
--- them in a receipt, how many sends and receipts were made, which of them fail, and how many did; the
--- moments of the pauses that it kept, and how many more it has room for.
+-- them in a receipt, how many sends and receipts were made, which of them fail, and how many did;
+-- the moments of the pauses that it kept, and how many more it has room for.
 pub record LinkInMemory : Type 0 where
   pub sent : List ℕ
   pub room : ℕ

@@ -122,8 +122,8 @@ TellsReplies (Some told) count = (answers : List Answer) × (rest : List ℕ)
 
 -- A visit with this ending came to its end: its turns, by the rule, and the moment of the last one,
 -- which ended it; its past, which is lawful and leads to the visit as it is now; the bytes sent and
--- received, of which the latter are the answers and a rest. The link was told to pause once for each
--- turn that waited, until that turn's moment, and never else.
+-- received, of which the latter are the answers and a rest. The link was told to pause once for
+-- each turn that waited, until that turn's moment, and never else.
 pub record IsVisit (ending : Ending) (before after : Scene) (end : VisitEnd) : Type 0 where
   pub turns : List Turn
   pub last : ℕ

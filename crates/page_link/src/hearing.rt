@@ -16,8 +16,7 @@ use visit_core::Heard;
 const MOST_RECEIPT: usize = 16_384;
 
 /// Receives a piece and feeds it to the reader. At the end of the bytes to be received the answer
-/// is
-/// bad: it is not whole.
+/// is bad: it is not whole.
 fn receive_piece<R, L: Link>(rt: &R, reader: &mut ReplyReader, link: &mut L) -> Result<(), Break>
     requires may_feed { IsTrue reader.old.bytes.may_feed }
     ensures fed { OnOk result ((piece : List ℕ) × (0 < length piece)

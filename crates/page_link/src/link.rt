@@ -11,8 +11,8 @@ pub trait Link {
     /// The bytes sent so far and the bytes still to be received, where the link tells them.
     ghost told: { Self → Option (List ℕ × List ℕ) };
 
-    /// The moments of the first pauses, in order, and for how many more it has room, where the link
-    /// tells them. A link may tell its bytes and not its pauses, or the other way round.
+    /// The moments until which it was told to pause, so many of the first of them as it had room
+    /// for, and for how many more it has room, where the link tells them.
     ghost pauses: { Self → Option (List ℕ × ℕ) };
 
     /// How often it failed.

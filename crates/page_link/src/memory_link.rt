@@ -12,7 +12,8 @@ use std::marker::Model;
 use std::rt::Clock as HostTime;
 
 /// A link that keeps what is sent in room that it has from the start, gives listed bytes, at most
-/// `piece` a receipt, and fails the listed sends and receipts, and a send that finds no room.
+/// `piece` a receipt, and fails the listed sends and receipts, and a send that finds no room. No
+/// time passes in its pauses.
 #[derive(Debug, Drop)]
 pub struct MemoryLink {
     sent: Vec<u8>,
@@ -197,8 +198,8 @@ impl Link for MemoryLink {
         ensures count { IfOk result (λ n. n ≡ receipt_count self.old buf.old) }
         ensures number { self.new.receipts ≡ one_more self.old.receipts }
 
-        // Each failure is counted, and nothing else is; sends are not numbered, and what it was made
-        // for stays.
+        // Each failure is counted, and nothing else is; sends are not numbered, and what it was
+        // made for stays.
         ensures counted { MatchResult result (λ _. self.new.faults ≡ self.old.faults)
             (λ _. self.new.faults ≡ one_more self.old.faults) }
         ensures sends { self.new.sends ≡ self.old.sends }
@@ -229,6 +230,8 @@ impl Link for MemoryLink {
     {
         if self.pause_room > 0 {
             self.pause_room -= 1;
+
+            // There is room, so this takes no memory.
             let _kept = self.pauses.push(until);
         }
     }

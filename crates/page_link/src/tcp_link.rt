@@ -10,8 +10,8 @@ use std::rt::Clock as HostTime;
 use std::thread;
 use std::time::Duration;
 
-/// A link over a connection. It tells no bytes and no pauses, tries again after an interruption, and counts each
-/// other error. Contracts see that count.
+/// A link over a connection. It tells no bytes and no pauses, tries again after an interruption,
+/// and counts each other error. Contracts see that count.
 #[derive(Drop)]
 pub struct TcpLink<S> {
     stream: S,
@@ -28,8 +28,7 @@ impl<S> Model for TcpLink<S> {
 
 impl<S: OpenStream + Drop> TcpLink<S> {
     /// A link to the server on this port of the machine itself, which sends each piece without
-    /// delay.
-    /// `Failed` where the connection is refused.
+    /// delay. `Failed` where the connection is refused.
     pub fn connect<R: Net<Stream = S>>(rt: &R, port: u16) -> Result<TcpLink<S>, Failed>
         ensures { IfOk result (λ l. l ≡ 0) }
     {

@@ -17,8 +17,7 @@ use std::rt::Clock as HostTime;
 use visit_core::{Act, Ending, Outcome, Visit};
 
 /// Does once what the visit's rule says at the moment that the clock gives, and answers how the
-/// visit
-/// ended, where it did.
+/// visit ended, where it did.
 pub fn take_turn<R: HostTime, L: Link, C: Clock>(
     rt: &R,
     visit: &mut Visit,

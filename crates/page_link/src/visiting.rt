@@ -18,8 +18,7 @@ use visit_core::{Ending, Visit};
 
 /// Makes a visit over a link, from its first ask to its end; the page ends with `ending` where it
 /// runs. The visit has not begun, and the ending's lengths and numbers are in range. The clock is
-/// read
-/// once a turn; it may never come to the moment for which the visit waits.
+/// read once a turn; it may never come to the moment for which the visit waits.
 ///
 /// `VisitEnd::Over(Outcome::LinkFault)` comes only where the link's count of failures rose, and
 /// `VisitEnd::BadReply` only where the bytes received are no reply.

@@ -139,11 +139,12 @@ impl Link for WaitingLink {
     }
 
     fn pause<R: HostTime>(&mut self, rt: &R, until: u64) {
-        if self.pauses == 0 && talk(&mut self.holder, RELEASE_1, DONE).is_none() {
+        self.link.pause(rt, until);
+        let is_first = self.pauses == 0;
+        self.pauses = self.pauses.saturating_add(1);
+        if is_first && talk(&mut self.holder, RELEASE_1, DONE).is_none() {
             self.faults = self.faults.saturating_add(1);
         }
-        self.pauses = self.pauses.saturating_add(1);
-        self.link.pause(rt, until);
     }
 }
 

@@ -1,4 +1,6 @@
 //! Visits by words, and what they print.
+ghost use Rattle.std.specs.Prelude.{◌≤◌, ◌^◌, IfOk, All};
+
 use crate::texts::{
     ACQUIRE, DONE, FOUND_2, LOCKED_110, LOCKED_111, MISSING, RELEASE_2, joined, moments_of,
 };
@@ -219,9 +221,7 @@ fn a_sink_that_fails_or_is_full_has_a_front_of_the_line_and_the_status_is_5(
 }
 
 #[test]
-fn a_link_with_room_for_less_than_the_request_is_a_link_fault(
-    rt: HostRuntime,
-) -> Result<(), Fail> {
+fn a_link_with_room_for_less_than_the_request_is_a_link_fault(rt: HostRuntime) -> Result<(), Fail> {
     let alloc = rt.alloc();
     let request = ACQUIRE.len() as u64;
     for (room, printed, status) in [
@@ -241,11 +241,24 @@ fn a_link_with_room_for_less_than_the_request_is_a_link_fault(
     Ok(())
 }
 
+// The text, so many times.
+fn repeated(alloc: Global, text: &str, count: u64) -> Result<Vec<u8>, Fail> {
+    let mut all = Vec::new(alloc);
+    for _ in 0..count {
+        all.extend_from_slice(text.as_bytes())?;
+    }
+    Ok(all)
+}
+
 // So many moments, half a second apart.
-fn half_seconds(alloc: Global, count: u64) -> Result<Vec<u64>, Fail> {
+fn half_seconds(alloc: Global, count: u64) -> Result<Vec<u64>, Fail>
+    ensures { IfOk result (λ all. All (λ m. m ≤ 2 ^ 62) all.items) }
+{
     let mut moments = Vec::new(alloc);
-    for k in 0..count.min(10_000) {
-        moments.push(k * 500)?;
+    let mut next: u64 = 0;
+    for _ in 0..count {
+        moments.push(next)?;
+        next = next.saturating_add(500);
     }
     moments_of(alloc, moments.as_slice())
 }
@@ -255,13 +268,10 @@ fn a_page_that_finds_its_session_locked_a_thousand_times_gives_up(
     rt: HostRuntime,
 ) -> Result<(), Fail> {
     let alloc = rt.alloc();
-    let mut incoming = Vec::new(alloc);
-    for _ in 0..1_000 {
-        incoming.extend_from_slice(LOCKED_110.as_bytes())?;
-    }
-    let none = || Vec::new(alloc);
-    let incoming = Bytes::adopt(incoming);
-    let Ok(mut link) = MemoryLink::new(alloc, 65_536, incoming, 16_384, none(), none()) else {
+    let incoming = Bytes::adopt(repeated(alloc, LOCKED_110, 1_000)?);
+    let sends = Vec::new(alloc);
+    let receipts = Vec::new(alloc);
+    let Ok(mut link) = MemoryLink::new(alloc, 65_536, incoming, 16_384, sends, receipts) else {
         return Err("no memory".into());
     };
     let mut sink = sink_of(alloc, 4_096, &[])?;
@@ -270,7 +280,8 @@ fn a_page_that_finds_its_session_locked_a_thousand_times_gives_up(
     let status = visit(&rt, alloc, &words, &mut link, &mut sink, &mut clock);
     assert_eq!(rt; status, 12);
     assert_eq!(rt; str::from_utf8(sink.taken()), Ok("gave-up 2 110\n"));
-    assert!(rt; link.sent().len() == 1_000 * ACQUIRE.len());
+    let sent = repeated(alloc, ACQUIRE, 1_000)?;
+    assert!(rt; link.sent() == sent.as_slice());
     Ok(())
 }
 

@@ -189,14 +189,7 @@ fn end_over<R: Wait + HostTime>(
     };
     let mut clock = ListClock::new(moments_of(alloc, case.moments)?);
     let mut visit = Visit::new(key, Need::Exclusive, limits);
-    Ok(run_visit(
-        rt,
-        alloc,
-        &mut visit,
-        Ending::Keep,
-        link,
-        &mut clock,
-    ))
+    Ok(run_visit(rt, alloc, &mut visit, Ending::Keep, link, &mut clock))
 }
 
 // The visit over replies in such pieces comes to its end.

@@ -13,7 +13,8 @@ returns-in-Over-clause-end g c page before run =
     let may = c.requires.may_turn in
     let acts = c.in-Over.ensures.act in
     ended-over page before c.args.visit.now c.args.visit.now (g.L.Link.told c.args.link.now)
-    (g.L.Link.told c.args.link.now) (g.L.Link.pauses c.args.link.now) (g.L.Link.pauses c.args.link.now)
+    (g.L.Link.told c.args.link.now) (g.L.Link.pauses c.args.link.now) (g.L.Link.pauses
+    c.args.link.now)
     (g.C.Clock.told c.args.clock.now)
     (g.C.Clock.told c.now-now.new.self) c.args.ending.now c.args.client.now.reader.bytes.held
     c.now-now.result
@@ -45,7 +46,8 @@ heard-requires-clause-fits g c =
 pub returns-in-Err-BadReply-clause-end : goal.returns-in-Err-BadReply-clause-end
 returns-in-Err-BadReply-clause-end g c page before run =
     ended-bad page before c.args.visit.now c.args.visit.now (g.L.Link.told c.args.link.now)
-    (g.L.Link.told c.ask.new.link) (g.L.Link.pauses c.args.link.now) (g.L.Link.pauses c.ask.new.link)
+    (g.L.Link.told c.ask.new.link) (g.L.Link.pauses c.args.link.now) (g.L.Link.pauses
+    c.ask.new.link)
     (g.C.Clock.told c.args.clock.now)
     (g.C.Clock.told c.now-now.new.self) c.args.ending.now c.args.client.now.reader.bytes.held
     c.now-now.result
@@ -58,7 +60,8 @@ returns-in-Err-BadReply-clause-end g c page before run =
 pub returns-in-Err-NoMemory-clause-end : goal.returns-in-Err-NoMemory-clause-end
 returns-in-Err-NoMemory-clause-end g c page before run =
     ended-no_memory page before c.args.visit.now c.args.visit.now (g.L.Link.told c.args.link.now)
-    (g.L.Link.told c.ask.new.link) (g.L.Link.pauses c.args.link.now) (g.L.Link.pauses c.ask.new.link)
+    (g.L.Link.told c.ask.new.link) (g.L.Link.pauses c.args.link.now) (g.L.Link.pauses
+    c.ask.new.link)
     (g.C.Clock.told c.args.clock.now)
     (g.C.Clock.told c.now-now.new.self) c.args.ending.now c.args.client.now.reader.bytes.held
     c.now-now.result
@@ -71,7 +74,8 @@ returns-in-Err-NoMemory-clause-end g c page before run =
 pub returns-in-Err-LinkFault-clause-end : goal.returns-in-Err-LinkFault-clause-end
 returns-in-Err-LinkFault-clause-end g c page before run =
     ended-lost page before c.args.visit.now c.lost_link.new.self (g.L.Link.told c.args.link.now)
-    (g.L.Link.told c.ask.new.link) (g.L.Link.pauses c.args.link.now) (g.L.Link.pauses c.ask.new.link)
+    (g.L.Link.told c.ask.new.link) (g.L.Link.pauses c.args.link.now) (g.L.Link.pauses
+    c.ask.new.link)
     (g.C.Clock.told c.args.clock.now)
     (g.C.Clock.told c.now-now.new.self) c.args.ending.now c.args.client.now.reader.bytes.held
     c.now-now.result
@@ -84,7 +88,8 @@ returns-in-Err-LinkFault-clause-end g c page before run =
 pub returns-in-WaitUntil-clause-on : goal.returns-in-WaitUntil-clause-on
 returns-in-WaitUntil-clause-on g c page before run =
     went-paused page before c.args.visit.now c.args.visit.now (g.L.Link.told c.args.link.now)
-    (g.L.Link.told c.pause.new.self) (g.L.Link.pauses c.args.link.now) (g.L.Link.pauses c.pause.new.self)
+    (g.L.Link.told c.pause.new.self) (g.L.Link.pauses c.args.link.now) (g.L.Link.pauses
+    c.pause.new.self)
     (g.C.Clock.told c.args.clock.now)
     (g.C.Clock.told c.now-now.new.self) c.args.ending.now c.args.ending.now
     c.args.client.now.reader.bytes.held c.args.client.now.reader.bytes.held c.now-now.result
@@ -95,7 +100,8 @@ pub returns-in-Some-clause-on : goal.returns-in-Some-clause-on
 returns-in-Some-clause-on g c page before run =
     rw c.take.ensures.after
     (went-ran page before c.args.visit.now c.finish.new.self (g.L.Link.told c.args.link.now)
-    (g.L.Link.told c.args.link.now) (g.L.Link.pauses c.args.link.now) (g.L.Link.pauses c.args.link.now)
+    (g.L.Link.told c.args.link.now) (g.L.Link.pauses c.args.link.now) (g.L.Link.pauses
+    c.args.link.now)
     (g.C.Clock.told c.args.clock.now)
     (g.C.Clock.told c.now-now.new.self) c.args.ending.now c.args.ending.now
     c.args.client.now.reader.bytes.held c.args.client.now.reader.bytes.held c.now-now.result
@@ -106,7 +112,8 @@ returns-in-Some-clause-on g c page before run =
 pub returns-in-Ok-clause-on : goal.returns-in-Ok-clause-on
 returns-in-Ok-clause-on g c page before run =
     went-asked page before c.args.visit.now c.heard.new.self (g.L.Link.told c.args.link.now)
-    (g.L.Link.told c.ask.new.link) (g.L.Link.pauses c.args.link.now) (g.L.Link.pauses c.ask.new.link)
+    (g.L.Link.told c.ask.new.link) (g.L.Link.pauses c.args.link.now) (g.L.Link.pauses
+    c.ask.new.link)
     (g.C.Clock.told c.args.clock.now)
     (g.C.Clock.told c.now-now.new.self) c.args.ending.now c.args.ending.now
     c.args.client.now.reader.bytes.held c.ask.new.client.reader.bytes.held c.now-now.result
