@@ -1,6 +1,9 @@
 //! Exchanges over one connection: what is asked, and what is answered.
+ghost use Rattle.pipe_command.specs.Run.{PipeFits};
+
 use crate::running::{PIPE, run_text, spelled};
 use pipe_command::Pipe;
+use std::alloc::Global;
 use std::test::Fail;
 
 /// Requests that make the item which the next request finds.
@@ -13,7 +16,23 @@ const FRESH: &[u8] = b"PUT /a HTTP/1.1\r\nExtraFlags: 1\r\nContent-Length: 1\r\n
 const HELD: &[u8] =
     b"PUT /a HTTP/1.1\r\nContent-Length: 1\r\n\r\nxGET /a HTTP/1.1\r\nExclusive: acquire\r\n\r\n";
 
-/// Requests, one after the other, and their replies.
+// Whether the requests, which come in pieces of so many bytes, are answered so, and the run ends
+// well.
+fn is_answered_so(
+    alloc: Global,
+    pipe: Pipe,
+    text: &[u8],
+    piece: u64,
+    replies: &str,
+) -> Result<bool, Fail>
+    requires { PipeFits pipe }
+{
+    let (status, output) = run_text(alloc, pipe, text, piece)?;
+    let lines = spelled(alloc, output.taken())?;
+    Ok(status == 0 && lines.as_slice() == replies.as_bytes())
+}
+
+/// Requests, one after the other, and their replies, however the requests are cut.
 #[test]
 fn requests_are_answered_in_order(rt: HostRuntime) -> Result<(), Fail> {
     let alloc = rt.alloc();
@@ -197,12 +216,15 @@ fn requests_are_answered_in_order(rt: HostRuntime) -> Result<(), Fail> {
             first,
             ..PIPE
         };
-        for piece in [1, 2, 3, 16_384] {
-            let (status, output) = run_text(alloc, pipe, text, piece)?;
-            let lines = spelled(alloc, output.taken())?;
-            assert_eq!(rt; status, 0, "the exchange that ends {replies}");
-            assert_eq!(rt; lines.as_slice(), replies.as_bytes(), "wanted {replies}");
-        }
+        let by_bytes = is_answered_so(alloc, pipe, text, 1, replies)?;
+        let by_twos = is_answered_so(alloc, pipe, text, 2, replies)?;
+        let by_threes = is_answered_so(alloc, pipe, text, 3, replies)?;
+        let whole = is_answered_so(alloc, pipe, text, 16_384, replies)?;
+        assert!(rt; whole, "wanted {replies}");
+        assert!(rt;
+            by_bytes && by_twos && by_threes,
+            "in pieces: wanted {replies}"
+        );
     }
     Ok(())
 }
