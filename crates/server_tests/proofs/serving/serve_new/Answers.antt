@@ -7,4 +7,4 @@ returns g c =
     let memory : c.serve_all-served.result.status ≢ 6 = c.had_memory.ensures (search rules) in
     let served = c.serve_all-served.ensures.served memory in
     let stored = rw (c.in-Some.is) at served in
-    record { met = stored.2.met.each }
+    record { met = stored.4.met.each }
