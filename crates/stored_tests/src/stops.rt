@@ -115,7 +115,7 @@ fn stays(rt: &HostRuntime, name: &str, text: &str, before: i64) -> Result<bool, 
     let refused = is_refused(rt, name)?;
     let rows = rows(rt, name)?;
     remove(rt, name)?;
-    Ok(refused && rows == (4 - before, before))
+    Ok(refused && rows == (4i64.saturating_sub(before), before))
 }
 
 #[test]
