@@ -1,95 +1,57 @@
 //! The canonical text of a reply: a head in a fixed buffer, and the body behind it.
-ghost use Rattle.std.specs.Prelude.{◌≡◌, ◌+◌, ◌≤◌, ◌++◌, [], length, codes, decimal};
+ghost use Rattle.std.specs.Prelude.{◌≡◌, ◌+◌, ◌≤◌, ◌++◌, length};
 ghost use Rattle.asp_messages.specs.ReplyText.{head_text, body_of, number_line, cookie_line, since_line, first_line, ending, status_line, reply_fields};
 
 use crate::Reply;
+use asp_base::FixedText;
 use itoa::Buffer;
-use std::marker::Model;
 
-/// The canonical head of a reply, at most 256 bytes. Contracts see the list of its bytes.
-#[derive(Debug, Drop)]
-pub struct ReplyHead {
-    bytes: [u8; 256],
-    len: usize,
+/// The canonical head of a reply.
+pub type ReplyHead = FixedText<256>;
+
+/// Adds a field with a number.
+fn push_number(head: &mut ReplyHead, name: &[u8], n: u64)
+    requires { length head.old + length name.now + 24 ≤ 256 }
+    ensures text { head.new ≡ head.old ++ number_line name.now n }
+    ensures room { length head.new ≤ length head.old + length name.now + 24 }
+{
+    let mut buffer = Buffer::new();
+    head.push(name);
+    head.push(b": ");
+    head.push(buffer.format(n).as_bytes());
+    head.push(b"\r\n");
 }
 
-impl Model for ReplyHead {
-    ghost use Rattle.std.specs.Prelude.{List, ℕ, ◌≤◌, take};
-
-    ghost Value = { List ℕ };
-
-    ghost view = { λ h. take h.len h.bytes };
-
-    ghost invariant = { λ h. h.len ≤ 256 };
+/// Adds the line of the cookie that was acquired.
+fn push_cookie(head: &mut ReplyHead, cookie: Option<u64>)
+    requires { length head.old + 34 ≤ 256 }
+    ensures text { head.new ≡ head.old ++ cookie_line cookie }
+    ensures room { length head.new ≤ length head.old + 34 }
+{
+    if let Some(cookie) = cookie {
+        push_number(head, b"LockCookie", cookie);
+    }
 }
 
-impl ReplyHead {
-    fn new() -> ReplyHead
-        ensures { result ≡ [] }
-    {
-        ReplyHead {
-            bytes: [0; 256],
-            len: 0,
-        }
+/// Adds the line of the moment of the acquisition.
+fn push_since(head: &mut ReplyHead, since: Option<u64>)
+    requires { length head.old + 32 ≤ 256 }
+    ensures text { head.new ≡ head.old ++ since_line since }
+    ensures room { length head.new ≤ length head.old + 32 }
+{
+    if let Some(since) = since {
+        push_number(head, b"LockDate", since);
     }
+}
 
-    /// The bytes of the head.
-    pub fn as_slice(&self) -> &[u8]
-        ensures { result.now ≡ self.now }
-    {
-        &self.bytes[..self.len]
-    }
-
-    #[inline(always)]
-    fn push(&mut self, text: &[u8])
-        requires { length self.old + length text.now ≤ 256 }
-        ensures { self.new ≡ self.old ++ text.now }
-    {
-        let end = self.len + text.len();
-        self.bytes[self.len..end].copy_from_slice(text);
-        self.len = end;
-    }
-
-    fn push_number(&mut self, name: &[u8], n: u64)
-        requires { length self.old + length name.now + 24 ≤ 256 }
-        ensures text { self.new ≡ self.old ++ number_line name.now n }
-        ensures room { length self.new ≤ length self.old + length name.now + 24 }
-    {
-        let mut buffer = Buffer::new();
-        self.push(name);
-        self.push(b": ");
-        self.push(buffer.format(n).as_bytes());
-        self.push(b"\r\n");
-    }
-
-    fn push_cookie(&mut self, cookie: Option<u64>)
-        requires { length self.old + 34 ≤ 256 }
-        ensures text { self.new ≡ self.old ++ cookie_line cookie }
-        ensures room { length self.new ≤ length self.old + 34 }
-    {
-        if let Some(cookie) = cookie {
-            self.push_number(b"LockCookie", cookie);
-        }
-    }
-
-    fn push_since(&mut self, since: Option<u64>)
-        requires { length self.old + 32 ≤ 256 }
-        ensures text { self.new ≡ self.old ++ since_line since }
-        ensures room { length self.new ≤ length self.old + 32 }
-    {
-        if let Some(since) = since {
-            self.push_number(b"LockDate", since);
-        }
-    }
-
-    fn push_first(&mut self, first: bool)
-        requires { length self.old + 16 ≤ 256 }
-        ensures text { self.new ≡ self.old ++ first_line first }
-        ensures room { length self.new ≤ length self.old + 16 }
-    {
-        if first {
-            self.push(b"ActionFlags: 1\r\n");
-        }
+/// Adds the line that tells the first reader of an uninitialised item.
+fn push_first(head: &mut ReplyHead, first: bool)
+    requires { length head.old + 16 ≤ 256 }
+    ensures text { head.new ≡ head.old ++ first_line first }
+    ensures room { length head.new ≤ length head.old + 16 }
+{
+    if first {
+        head.push(b"ActionFlags: 1\r\n");
     }
 }
 
@@ -122,14 +84,14 @@ fn push_fields(head: &mut ReplyHead, reply: &Reply)
             first,
             ..
         } => {
-            head.push_number(b"Timeout", *minutes);
-            head.push_cookie(*cookie);
-            head.push_first(*first);
+            push_number(head, b"Timeout", *minutes);
+            push_cookie(head, *cookie);
+            push_first(head, *first);
         }
         Reply::Locked { cookie, age, since } => {
-            head.push_number(b"LockCookie", *cookie);
-            head.push_number(b"LockAge", *age);
-            head.push_since(*since);
+            push_number(head, b"LockCookie", *cookie);
+            push_number(head, b"LockAge", *age);
+            push_since(head, *since);
         }
         _ => {}
     }
@@ -143,7 +105,7 @@ pub fn reply_head(reply: &Reply) -> ReplyHead
     let mut head = ReplyHead::new();
     head.push(status_text(reply));
     push_fields(&mut head, reply);
-    head.push_number(b"Content-Length", reply_body(reply).len() as u64);
+    push_number(&mut head, b"Content-Length", reply_body(reply).len() as u64);
     head.push(b"\r\n");
     head
 }
