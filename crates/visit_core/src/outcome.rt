@@ -1,9 +1,9 @@
 //! How a visit came out, and the spelling of that in a fixed buffer.
-ghost use Rattle.std.specs.Prelude.{◌≡◌, ◌+◌, ◌≤◌, ◌++◌, [], length};
+ghost use Rattle.std.specs.Prelude.{◌≡◌, ◌+◌, ◌≤◌, length};
 ghost use Rattle.visit_core.specs.OutcomeText.{outcome_spelling, with_number};
 
+use asp_base::FixedText;
 use itoa::Buffer;
-use std::marker::Model;
 
 /// How a visit came out.
 #[derive(Clone, Copy, Debug, PartialEq, Eq)]
@@ -35,58 +35,18 @@ pub enum Outcome {
     },
 }
 
-/// The spelling of an outcome, at most 64 bytes. Contracts see the list of its bytes.
-#[derive(Debug, Drop)]
-pub struct OutcomeText {
-    bytes: [u8; 64],
-    len: usize,
-}
+/// The spelling of an outcome.
+pub type OutcomeText = FixedText<64>;
 
-impl Model for OutcomeText {
-    ghost use Rattle.std.specs.Prelude.{List, ℕ, ◌≤◌, take};
-
-    ghost Value = { List ℕ };
-
-    ghost view = { λ o. take o.len o.bytes };
-
-    ghost invariant = { λ o. o.len ≤ 64 };
-}
-
-impl OutcomeText {
-    fn new() -> OutcomeText
-        ensures { result ≡ [] }
-    {
-        OutcomeText {
-            bytes: [0; 64],
-            len: 0,
-        }
-    }
-
-    /// The bytes of the spelling.
-    pub fn as_slice(&self) -> &[u8]
-        ensures { result.now ≡ self.now }
-    {
-        &self.bytes[..self.len]
-    }
-
-    fn push(&mut self, text: &[u8])
-        requires { length self.old + length text.now ≤ 64 }
-        ensures { self.new ≡ self.old ++ text.now }
-    {
-        let end = self.len + text.len();
-        self.bytes[self.len..end].copy_from_slice(text);
-        self.len = end;
-    }
-
-    fn push_number(&mut self, n: u64)
-        requires { length self.old + 21 ≤ 64 }
-        ensures text { self.new ≡ with_number self.old n }
-        ensures room { length self.new ≤ length self.old + 21 }
-    {
-        let mut buffer = Buffer::new();
-        self.push(b" ");
-        self.push(buffer.format(n).as_bytes());
-    }
+/// Adds a blank and a number.
+fn push_number(text: &mut OutcomeText, n: u64)
+    requires { length text.old + 21 ≤ 64 }
+    ensures text { text.new ≡ with_number text.old n }
+    ensures room { length text.new ≤ length text.old + 21 }
+{
+    let mut buffer = Buffer::new();
+    text.push(b" ");
+    text.push(buffer.format(n).as_bytes());
 }
 
 /// The outcome's spelling: `done`, `lost-lock locked COOKIE AGE`, `lost-lock missing`,
@@ -100,19 +60,19 @@ pub fn outcome_text(outcome: &Outcome) -> OutcomeText
         Outcome::Done => text.push(b"done"),
         Outcome::LostLocked { cookie, age } => {
             text.push(b"lost-lock locked");
-            text.push_number(*cookie);
-            text.push_number(*age);
+            push_number(&mut text, *cookie);
+            push_number(&mut text, *age);
         }
         Outcome::LostMissing => text.push(b"lost-lock missing"),
         Outcome::GaveUp { cookie, age } => {
             text.push(b"gave-up");
-            text.push_number(*cookie);
-            text.push_number(*age);
+            push_number(&mut text, *cookie);
+            push_number(&mut text, *age);
         }
         Outcome::LinkFault => text.push(b"link-fault"),
         Outcome::Refused { status } => {
             text.push(b"refused");
-            text.push_number(*status as u64);
+            push_number(&mut text, *status as u64);
         }
     }
     text
