@@ -66,6 +66,10 @@ pub record HasPast (visit : VisitState) (past : List Event) : Type 0 where
 
 -- ---- what may be told to a visit
 
+-- the session is asked for from some moment on
+abbrev pub IsAsking : VisitState → Type 0
+IsAsking visit = (from : ℕ) × (visit.stage ≡ Asking from)
+
 -- the stage sends a request at this moment
 abbrev pub StageSends : Stage → ℕ → Type 0
 StageSends (Asking from) t = from ≤ t

@@ -1,5 +1,5 @@
 -- What a visit is about, and the ranges of its lengths and numbers.
-use Rattle.std.specs.Prelude.{ℕ, ◌≤◌, ◌<◌, List, ⊤}
+use Rattle.std.specs.Prelude.{ℕ, ◌+◌, ◌*◌, ◌≤◌, ◌<◌, List, ⊤}
 use Rattle.asp_messages.specs.Ranges.{BodyFits, MinutesFit, ReplyFits}
 use Rattle.visit_core.specs.declared.terms.Need.{Need}
 use Rattle.visit_core.specs.declared.terms.Limits.{Limits}
@@ -20,6 +20,15 @@ pub record LimitsFit (limits : Limits) : Type 0 where
   pub execution : (0 < limits.execution_secs) × (limits.execution_secs ≤ 86400)
   pub poll : (0 < limits.poll_ms) × (limits.poll_ms ≤ 60000)
   pub polls_fit : (0 < limits.polls) × (limits.polls ≤ 1000000)
+
+-- the limits that ASP.NET has by default, and 1,000 polls
+abbrev pub default_limits : Limits
+default_limits = record { execution_secs = 110; poll_ms = 500; polls = 1000 }
+
+-- A visit by these limits is over after at most so many steps, and so sends at most so many
+-- requests: three steps for each poll, and two for the page's end.
+abbrev pub most_requests : Limits → ℕ
+most_requests limits = 3 * limits.polls + 2
 
 -- the content and the minutes that are saved are in their ranges
 abbrev pub EndingFits : Ending → Type 0

@@ -1,6 +1,6 @@
 //! What a page needs of its session, and how long it asks.
 ghost use Rattle.std.specs.Prelude.{◌≡◌, ◌↔◌, IsTrue};
-ghost use Rattle.visit_core.specs.Terms.{LimitsFit};
+ghost use Rattle.visit_core.specs.Terms.{LimitsFit, default_limits};
 ghost use Rattle.visit_core.specs.Rule.{ask_for};
 
 use asp_messages::Ask;
@@ -51,12 +51,7 @@ pub struct Limits {
 }
 
 impl Default for Limits {
-    ghost is_default = { λ limits. limits ≡ record {
-      execution_secs = 110;
-      poll_ms = 500;
-      polls =
-          1000;
-    } };
+    ghost is_default = { λ limits. limits ≡ default_limits };
 
     /// ASP.NET's 110 seconds and half a second, and 1,000 polls.
     fn default() -> Limits {

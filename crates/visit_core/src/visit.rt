@@ -1,11 +1,11 @@
 //! A visit, from its first ask to its outcome.
-ghost use Rattle.std.specs.Prelude.{◌≡◌, ◌+◌, ◌*◌, ◌≤◌, ◌<◌, ◌^◌, ℕ, ◌++◌, ◌∷◌, [], List};
+ghost use Rattle.std.specs.Prelude.{◌≡◌, ◌≤◌, ◌<◌, ◌^◌, ℕ, ◌++◌, ◌∷◌, [], List};
 ghost use Rattle.asp_messages.specs.Ranges.{KeyFits};
 ghost use Rattle.asp_messages.specs.declared.request.Request.{Request};
-ghost use Rattle.visit_core.specs.Terms.{Terms, LimitsFit, EndingFits, HeardFits};
+ghost use Rattle.visit_core.specs.Terms.{Terms, LimitsFit, EndingFits, HeardFits, most_requests};
 ghost use Rattle.visit_core.specs.Acts.{action_of, send, wait_until, ActFits, IsSend, IsToRun};
 ghost use Rattle.visit_core.specs.Rule.{Event, heard, ended, lost, act_of};
-ghost use Rattle.visit_core.specs.Stages.{HasPast, Sends, Runs, steps_left, StageFits};
+ghost use Rattle.visit_core.specs.Stages.{HasPast, IsAsking, Sends, Runs, steps_left, StageFits};
 ghost use Rattle.visit_core.specs.Tables.{LockFits, lock_met, answered, meets_lock, hears_answer, hears_release, hears};
 
 use crate::stage::{Lock, Stage};
@@ -56,7 +56,7 @@ impl Visit {
         ensures past { HasPast result [] }
 
         // A visit ends: each answer, each wait and the page's end leave it fewer steps.
-        ensures steps { (t : ℕ) → steps_left result t ≤ 3 * limits.polls + 2 }
+        ensures steps { (t : ℕ) → steps_left result t ≤ most_requests limits }
     {
         Visit {
             request: Request {
@@ -96,7 +96,7 @@ impl Visit {
     fn meet_lock(&mut self, t: u64, lock: Lock)
         requires moment { t ≤ 2 ^ 62 }
         requires lock { LockFits lock }
-        requires asking { (from : ℕ) × (self.old.stage ≡ Stage.Asking from) }
+        requires asking { IsAsking self.old }
         ensures { self.new ≡ meets_lock self.old t lock }
     {
         let Lock { cookie, age } = lock;
@@ -125,7 +125,7 @@ impl Visit {
     fn hear_answer(&mut self, t: u64, answer: Heard)
         requires moment { t ≤ 2 ^ 62 }
         requires fits { HeardFits answer }
-        requires asking { (from : ℕ) × (self.old.stage ≡ Stage.Asking from) }
+        requires asking { IsAsking self.old }
         ensures { self.new ≡ hears_answer self.old t answer (lock_met self.old.ask answer) }
     {
         match Lock::met(&self.request.ask, &answer) {
