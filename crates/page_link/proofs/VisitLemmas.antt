@@ -16,14 +16,14 @@ use Rattle.visit_core.specs.declared.outcome.Outcome.TheVariants.{LinkFault}
 use Rattle.visit_core.specs.Acts.{over}
 use Rattle.visit_core.specs.Rule.{Event, act_of, has_ended, IsLawful, EachFollows}
 use Rattle.visit_core.specs.Stages.{HasPast, steps_left}
-use Rattle.visit_core.specs.Terms.{Terms}
+use Rattle.visit_core.specs.Terms.{Terms, most_requests}
 use Rattle.visit_core.proofs.ReleaseLemmas.{releases}
 use Rattle.page_link.specs.declared.visit_end.VisitEnd.{VisitEnd}
 use Rattle.page_link.specs.declared.visit_end.VisitEnd.TheVariants as ends
 use Rattle.page_link.specs.Exchanges.{IsUnderway, kept_ending}
 use Rattle.page_link.specs.Links.{Exchanges, KeepsPauses}
 use Rattle.page_link.specs.Turns.{Turn, moment_of, events_of, text_of, answer_of, pause_of, past_of, texts_of, answers_of, pauses_of, GaveMoments}
-use Rattle.page_link.specs.Visits.{Scene, Follows, AllFollow, IsVisit, ForcesOldLocks, IsBadRest, AreAllReplies, SentAs, loss_of, IfOver, TellsReplies, EndsWell, most_requests}
+use Rattle.page_link.specs.Visits.{Scene, Follows, AllFollow, IsVisit, ForcesOldLocks, IsBadRest, AreAllReplies, SentAs, loss_of, IfOver, TellsReplies, EndsWell}
 use Rattle.page_link.proofs.LinkLemmas.{Exchanges-trans, KeepsPauses-trans}
 
 -- ---- moments
@@ -228,7 +228,7 @@ ends_so ending before now after kept held run end ended =
 
 pub complete : (ending : Ending) (before after : Scene) (end : VisitEnd)
     → IsVisit ending before after end
-    → TellsReplies before.link (most_requests before.visit.terms + 1)
+    → TellsReplies before.link (most_requests before.visit.terms.limits + 1)
     → (end ≡ ends.Over LinkFault → ⊥) → EndsWell end
 complete ending before after (ends.Over outcome) visit tells sound = λ e. sound (ap ends.Over e)
 complete ending before after ends.NoMemory visit tells sound = tt
@@ -236,7 +236,7 @@ complete ending before after ends.BadReply visit tells sound =
     enough before.link (visit.all refl) tells
   where
     enough : (link : Option (List ℕ × List ℕ)) → AreAllReplies link (answers_of visit.turns)
-        → TellsReplies link (most_requests before.visit.terms + 1) → ⊥
+        → TellsReplies link (most_requests before.visit.terms.limits + 1) → ⊥
     enough None all tells = tells
     enough (Some told) (rest, stream) (answers, other, others, many) =
         let same =

@@ -7,12 +7,13 @@ use Rattle.visit_core.specs.declared.act.Ending.{Ending}
 use Rattle.visit_core.specs.declared.act.Heard.{Heard}
 use Rattle.visit_core.specs.Rule.{Event, has_ended}
 use Rattle.visit_core.specs.Stages.{VisitState, HasPast, steps_left}
-use Rattle.visit_core.specs.Terms.{EndingFits}
+use Rattle.visit_core.specs.Terms.{EndingFits, most_requests}
+use Rattle.page_link.specs.declared.visit_end.VisitEnd.{VisitEnd}
 use Rattle.page_link.specs.declared.exchange.Break.{Break}
 use Rattle.page_link.specs.declared.exchange.Break.TheVariants as breaks
 use Rattle.page_link.specs.Links.{Exchanges, Receives, KeepsPauses}
 use Rattle.page_link.specs.Turns.{Turn, moment_of, heard_of, has_lost, past_of, texts_of, answers_of, pauses_of, GaveMoments}
-use Rattle.page_link.specs.Visits.{Scene, AllFollow, IsBadRest, IsFront, IsWhole, most_requests}
+use Rattle.page_link.specs.Visits.{Scene, AllFollow, IsVisit, IsBadRest, IsFront, IsWhole}
 
 -- ---- one request
 
@@ -94,5 +95,16 @@ pub record IsUnderway (ending : Ending) (before now : Scene) (kept : Option Endi
   pub pauses : KeepsPauses before.pauses now.pauses (pauses_of turns)
   pub answers : Spelled SpellsReply received (answers_of turns) held
   pub steps : (t : ℕ)
-      → length (answers_of turns) + steps_left now.visit t ≤ most_requests before.visit.terms
+      → length (answers_of turns) + steps_left now.visit t ≤ most_requests before.visit.terms.limits
   pub kept_is : kept ≡ kept_ending (has_ended (past_of ending turns)) ending
+
+-- every visit that was underway in the old scene, with what was kept and held there, still is in
+-- the new one
+abbrev pub StaysUnderway : Scene → Option Ending → List ℕ → Scene → Option Ending → List ℕ → Type 0
+StaysUnderway old kept held new kept' held' = (ending : Ending) (before : Scene)
+    → IsUnderway ending before old kept held → IsUnderway ending before new kept' held'
+
+-- every visit that was underway in the old scene came to this end
+abbrev pub ComesToEnd : Scene → Option Ending → List ℕ → Scene → VisitEnd → Type 0
+ComesToEnd old kept held new end = (ending : Ending) (before : Scene)
+    → IsUnderway ending before old kept held → IsVisit ending before new end

@@ -12,7 +12,7 @@ use Rattle.visit_core.specs.declared.outcome.Outcome.TheVariants.{LinkFault}
 use Rattle.visit_core.specs.Acts.{Action, send, wait_until, over, IsToRun}
 use Rattle.visit_core.specs.Rule.{Event, lost, act_of, send_ask, has_ended, IsLawful, MeetsOldLock}
 use Rattle.visit_core.specs.Stages.{VisitState, HasPast, steps_left}
-use Rattle.visit_core.specs.Terms.{Terms}
+use Rattle.visit_core.specs.Terms.{Terms, most_requests}
 use Rattle.page_link.specs.declared.visit_end.VisitEnd.{VisitEnd}
 use Rattle.page_link.specs.declared.visit_end.VisitEnd.TheVariants.{Over, BadReply, NoMemory}
 use Rattle.page_link.specs.Links.{Exchanges, KeepsPauses}
@@ -26,14 +26,16 @@ pub record Scene : Type 0 where
   pub pauses : Option (List ℕ × ℕ)
   pub clock : Option (ℕ → ℕ)
 
--- a visit has at most so many requests
-abbrev pub most_requests : Terms → ℕ
-most_requests terms = 3 * terms.limits.polls + 2
+-- the scene of a visit, by what its link and its clock tell
+abbrev pub scene : VisitState → Option (List ℕ × List ℕ) → Option (List ℕ × ℕ) → Option (ℕ → ℕ)
+    → Scene
+scene visit link pauses clock =
+    record { visit = visit; link = link; pauses = pauses; clock = clock }
 
 -- The visit has not begun.
 pub record IsNew (visit : VisitState) : Type 0 where
   pub past : HasPast visit []
-  pub steps : (t : ℕ) → steps_left visit t ≤ most_requests visit.terms
+  pub steps : (t : ℕ) → steps_left visit t ≤ most_requests visit.terms.limits
 
 -- ---- turns
 
@@ -142,7 +144,7 @@ pub record IsVisit (ending : Ending) (before after : Scene) (end : VisitEnd) : T
   pub sent_as : SentAs end (act_of before.visit.terms (past_of ending turns) last)
       (texts_of turns) sent
   pub answers : Spelled SpellsReply received (answers_of turns) rest
-  pub few : length (answers_of turns) ≤ most_requests before.visit.terms
+  pub few : length (answers_of turns) ≤ most_requests before.visit.terms.limits
   pub bad : end ≡ BadReply → IsBadRest after.link rest
   pub all : end ≡ BadReply → AreAllReplies before.link (answers_of turns)
   pub forced : ForcesOldLocks before.visit.terms (past_of ending turns ++ loss_of end)

@@ -10,10 +10,10 @@ mod memory_link;
 mod tcp_link;
 mod turn;
 mod visit_end;
-mod visiting;
+mod whole_visit;
 
 pub use link::Link;
 pub use memory_link::MemoryLink;
 pub use tcp_link::TcpLink;
 pub use visit_end::VisitEnd;
-pub use visiting::run_visit;
+pub use whole_visit::run_visit;

@@ -2,11 +2,10 @@
 ghost use Rattle.std.specs.Prelude.{◌≡◌, ◌≤◌, ◌^◌, ℕ, false, Some, IfSome, IfNone};
 ghost use Rattle.asp_base.specs.Causes.{Rose};
 ghost use Rattle.asp_base.specs.Moments.{GivesMoment};
-ghost use Rattle.visit_core.specs.declared.act.Ending.{Ending};
 ghost use Rattle.visit_core.specs.declared.outcome.Outcome.TheVariants.{LinkFault};
 ghost use Rattle.page_link.specs.declared.visit_end.VisitEnd.TheVariants.{Over};
-ghost use Rattle.page_link.specs.Exchanges.{IsUnderway, MayTurn};
-ghost use Rattle.page_link.specs.Visits.{Scene, IsVisit};
+ghost use Rattle.page_link.specs.Exchanges.{MayTurn, StaysUnderway, ComesToEnd};
+ghost use Rattle.page_link.specs.Visits.{scene};
 
 use crate::client::Client;
 use crate::exchange::{Break, ask};
@@ -28,41 +27,20 @@ pub fn take_turn<R: HostTime, L: Link, C: Clock>(
 ) -> Option<VisitEnd>
     requires may_turn { MayTurn visit.old ending.old }
     requires whole { client.old.reader.bytes.is_broken ≡ false }
-    ensures on { IfNone result ((page : Ending) (before : Scene)
-        → IsUnderway page before (record {
-          visit = visit.old;
-          link = L.told link.old;
-          pauses = L.pauses link.old;
-          clock =
-              C.told clock.old;
-        }) ending.old client.old.reader.bytes.held
-        → IsUnderway page before (record {
-          visit = visit.new;
-          link = L.told link.new;
-          pauses = L.pauses link.new;
-          clock =
-              C.told clock.new;
-        }) ending.new client.new.reader.bytes.held) }
+    ensures on { IfNone result (StaysUnderway
+        (scene visit.old (L.told link.old) (L.pauses link.old) (C.told clock.old))
+        ending.old client.old.reader.bytes.held
+        (scene visit.new (L.told link.new) (L.pauses link.new) (C.told clock.new))
+        ending.new client.new.reader.bytes.held) }
 
     // A turn that leaves the visit underway has read the clock once.
     ensures read { IfNone result ((now : ℕ)
         × GivesMoment (C.told clock.old) (C.told clock.new) now) }
     ensures whole { IfNone result (client.new.reader.bytes.is_broken ≡ false) }
-    ensures end { IfSome result (λ end. (page : Ending) (before : Scene)
-        → IsUnderway page before (record {
-          visit = visit.old;
-          link = L.told link.old;
-          pauses = L.pauses link.old;
-          clock =
-              C.told clock.old;
-        }) ending.old client.old.reader.bytes.held
-        → IsVisit page before (record {
-          visit = visit.new;
-          link = L.told link.new;
-          pauses = L.pauses link.new;
-          clock =
-              C.told clock.new;
-        }) end) }
+    ensures end { IfSome result (ComesToEnd
+        (scene visit.old (L.told link.old) (L.pauses link.old) (C.told clock.old))
+        ending.old client.old.reader.bytes.held
+        (scene visit.new (L.told link.new) (L.pauses link.new) (C.told clock.new))) }
     ensures lost { result ≡ Some (Over LinkFault) → Rose (L.faults link.old) (L.faults link.new) }
     ensures faults { L.faults link.old ≤ L.faults link.new }
 {

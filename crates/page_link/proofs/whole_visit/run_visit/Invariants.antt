@@ -1,6 +1,6 @@
 use Rattle.std.proofs.Common.{◌≡◌, ◌≤◌, false}
 use Rattle.page_link.specs.Exchanges.{IsUnderway}
-use Rattle.page_link.proofs.visiting.run_visit.Given as goal
+use Rattle.page_link.proofs.whole_visit.run_visit.Given as goal
 
 abbrev pub invariant-loop : goal.invariant-loop
 invariant-loop g l =

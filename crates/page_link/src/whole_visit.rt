@@ -2,9 +2,9 @@
 ghost use Rattle.std.specs.Prelude.{◌≡◌, ◌+◌, ◌≤◌, IsTrue};
 ghost use Rattle.asp_base.specs.Causes.{Rose};
 ghost use Rattle.visit_core.specs.declared.outcome.Outcome.TheVariants.{LinkFault};
-ghost use Rattle.visit_core.specs.Terms.{EndingFits};
+ghost use Rattle.visit_core.specs.Terms.{EndingFits, most_requests};
 ghost use Rattle.page_link.specs.declared.visit_end.VisitEnd.TheVariants.{Over};
-ghost use Rattle.page_link.specs.Visits.{IsNew, IsVisit, EndsWell, TellsReplies, most_requests};
+ghost use Rattle.page_link.specs.Visits.{IsNew, IsVisit, EndsWell, TellsReplies, scene};
 
 use crate::client::Client;
 use crate::link::Link;
@@ -33,24 +33,14 @@ pub fn run_visit<R: Wait + HostTime, L: Link, C: Clock>(
     requires new { IsNew visit.old }
     requires fits { EndingFits ending }
     ensures visit { IsVisit ending
-        (record {
-          visit = visit.old;
-          link = L.told link.old;
-          pauses = L.pauses link.old;
-          clock = C.told clock.old;
-        })
-        (record {
-          visit = visit.new;
-          link = L.told link.new;
-          pauses = L.pauses link.new;
-          clock = C.told clock.new;
-        }) result }
+        (scene visit.old (L.told link.old) (L.pauses link.old) (C.told clock.old))
+        (scene visit.new (L.told link.new) (L.pauses link.new) (C.told clock.new)) result }
     ensures lost { result ≡ Over LinkFault → Rose (L.faults link.old) (L.faults link.new) }
     ensures faults { L.faults link.old ≤ L.faults link.new }
 
     // Where the link does not fail and enough whole replies come, the visit comes to an outcome, if
     // memory is there.
-    ensures complete { TellsReplies (L.told link.old) (most_requests visit.old.terms + 1)
+    ensures complete { TellsReplies (L.told link.old) (most_requests visit.old.terms.limits + 1)
         → (Rose (L.faults link.old) (L.faults link.new) → ⊥) → EndsWell result }
 {
     let mut ending = Some(ending);

@@ -4,7 +4,7 @@ use Rattle.asp_base.specs.Causes.{Rose}
 use Rattle.page_link.specs.Visits.{Scene}
 use Rattle.page_link.proofs.TurnLemmas.{may_turn, not_begun}
 use Rattle.page_link.proofs.VisitLemmas.{complete}
-use Rattle.page_link.proofs.visiting.run_visit.Goals as goal
+use Rattle.page_link.proofs.whole_visit.run_visit.Goals as goal
 
 rise : (a b c : ℕ) → a ≤ b → Rose b c → Rose a c
 rise a b c later rose = omega (arith, later, rose)
