@@ -9,7 +9,7 @@ ghost use Rattle.cookie_source.specs.Source.{source_id, drawer_home};
 ghost use Rattle.shard_core.specs.Standing.{TellsSame, asked_entry};
 ghost use Rattle.shard_core.specs.Sweeping.{swept_entry};
 ghost use Rattle.turnstile.specs.Rule.{end_of_places};
-ghost use Rattle.turnstile.specs.declared.terms.Terms.{Terms};
+ghost use Rattle.turnstile.specs.declared.stands.Terms.{Terms};
 
 use crate::note::Note;
 use asp_messages::{Ask, Reply, Request};

@@ -1,12 +1,12 @@
-//! The turnstile and its calls.
+//! The turnstile and its calls, and what threads have of it: the roll, the passes, and the turn of
+//! one of them.
 ghost use Rattle.std.specs.Prelude.{◌≡◌, [], ◌∷◌, true, false, None, Some};
 
 use crate::rule::{
-    DrawNumber, Enter, LearnCount, Leave, MakeNote, MakePass, ReadNote, SeeTicket, TakeLonger,
-    TakeRoll, TakeTicket, TurnRule,
+    DrawNumber, Enter, LearnCount, Leave, MakeNote, MakePass, ReadNote, SaidEntry, SeatView,
+    SeeTicket, TakeLonger, TakeRoll, TakeTicket, TurnRule,
 };
-use crate::view::SaidEntry;
-use crate::{FreshTurns, SeatView, Spent, Stands, Terms, Turn, TurnPass, TurnRoll};
+use crate::{Stands, Terms};
 use asp_base::NoMemory;
 use atomic_table::{Refused, Seat, Table};
 use std::alloc::Global;
@@ -48,6 +48,72 @@ pub struct Turnstile<S: Stands> {
     sleepers: AtomicU64,
     ghost three_words: { table.shared.table_id.words ≡ 3 },
     ghost one_slot: { table.shared.table_id.slots ≡ 1 },
+}
+
+/// The right to make passes, and how many it has made.
+#[derive(Drop)]
+pub struct TurnRoll<S: Stands> {
+    pub(crate) seat: Seat<Option<S>, SeatView<S::Entry>>,
+    pub(crate) made: u64,
+    ghost counts: { seat.me.0.count ≡ Some made },
+    ghost knows_nothing: { (seat.me.0.front ≡ []) × (seat.me.0.number ≡ None) },
+    ghost waits_not: { (seat.me.0.ticket ≡ None) × (seat.me.0.inside ≡ false) × (seat.me.1 ≡ []) },
+}
+
+/// The right to take turns under one caller number, and what its owner knows of the history.
+///
+/// Contracts see its number, its front, which is the list of entries that it knows, its own calls
+/// among them, and the ticket word that it last saw.
+#[derive(Drop)]
+pub struct TurnPass<S: Stands> {
+    pub(crate) seat: Seat<Option<S>, SeatView<S::Entry>>,
+    pub(crate) number: u64,
+    ghost numbered: { seat.me.0.number ≡ Some number },
+    ghost outside: { seat.me.0.inside ≡ false → (seat.me.0.ticket ≡ None) × (seat.me.1 ≡ []) },
+    ghost inside: { seat.me.0.inside ≡ true → seat.me.1 ≡ (0, None) ∷ [] },
+}
+
+impl<S: Stands> TurnPass<S> {
+    ghost use Rattle.turnstile.specs.Turns.{caller_number};
+
+    /// The pass's caller number.
+    pub fn caller(&self) -> u64
+        ensures { result ≡ caller_number self.now }
+    {
+        self.number
+    }
+}
+
+/// A pass's turn, with the state. It is no `Drop`, so it ends in `leave`.
+pub struct Turn<S> {
+    pub(crate) state: S,
+}
+
+impl<S> Turn<S> {
+    ghost use types.Logic.{sem};
+    ghost use Rattle.turnstile.specs.Lent.{LendsState};
+    ghost use Rattle.turnstile.specs.Turns.{state_of};
+
+    /// The state, to be read and changed.
+    pub fn state(&mut self) -> &mut S
+        ensures* writes_back { sem 𝓛 (LendsState S.row self.entry result) }
+        ensures value { result.now ≡ state_of self.old }
+    {
+        &mut self.state
+    }
+}
+
+/// No place is left: the ticket word stood at the end of places.
+#[derive(Clone, Copy, Debug, PartialEq, Eq)]
+pub struct Spent {
+    pub ticket: u64,
+}
+
+/// A new turnstile and the only roll that it will ever have.
+#[derive(Drop)]
+pub struct FreshTurns<S: Stands> {
+    pub turns: Turnstile<S>,
+    pub roll: TurnRoll<S>,
 }
 
 impl<S: Stands + Drop> Turnstile<S> {
@@ -228,33 +294,17 @@ impl<S: Stands + Drop> Turnstile<S> {
         ensures slot { seat.new.me.1 ≡ (0, None) ∷ [] }
         ensures comes { TurnComes S.stands S.caller seat.old.me.0 ticket seat.new.me.0 result }
     {
+        let shared = &self.table.shared;
         for _ in rt.forever() {
-            if let Some(state) = self.look(seat, ticket) {
+            let found = shared.load::<Enter<S>>(seat, SERVING);
+            if found == ticket
+                && let Some(state) = shared.exchange(seat, STATE, None)
+            {
                 return state;
             }
             yield_now();
         }
         unreachable!()
-    }
-
-    /// Looks whether the ticket is served, and takes the state where it is.
-    fn look(&self, seat: &mut Seat<Option<S>, SeatView<S::Entry>>, ticket: u64) -> Option<S>
-        requires home { seat.old.table_id ≡ self.now.table.shared.table_id }
-        requires holds { (seat.old.me.0.ticket ≡ Some ticket) × (seat.old.me.0.inside ≡ false)
-            × (seat.old.me.1 ≡ []) }
-        ensures home { seat.new.table_id ≡ seat.old.table_id }
-        ensures slot { IfSome result (λ _. seat.new.me.1 ≡ (0, None) ∷ []) }
-        ensures comes { IfSome result (λ s. TurnComes S.stands S.caller seat.old.me.0 ticket
-            seat.new.me.0 s) }
-        ensures none { IfNone result (seat.new.me ≡ seat.old.me) }
-    {
-        let shared = &self.table.shared;
-        let found = shared.load::<Enter<S>>(seat, SERVING);
-        if found == ticket {
-            shared.exchange(seat, STATE, None)
-        } else {
-            None
-        }
     }
 
     /// Gives the state back, which stands for one more entry, wakes a caller that sleeps, if there

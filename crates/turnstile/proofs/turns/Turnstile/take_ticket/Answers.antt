@@ -1,5 +1,5 @@
 use Rattle.std.proofs.Common.{rules}
-use Rattle.turnstile.proofs.StepsKeepRule.{takes_ticket}
+use Rattle.turnstile.proofs.LoadsKeepRule.{takes_ticket}
 use Rattle.turnstile.proofs.turns.Turnstile.take_ticket.Goals as goal
 
 pub compare_exchange-at-requires : goal.compare_exchange-at-requires
