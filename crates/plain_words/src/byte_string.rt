@@ -15,7 +15,7 @@ fn has_upper(digits: &[u8]) -> bool
 }
 
 /// The bytes that the text spells, at most `most` of them; `None` exactly where it is no byte
-/// string of at most so many. The only error is want of memory for them.
+/// string of at most so many. The only error is to be out of memory for them.
 pub fn read_byte_string(alloc: Global, text: &[u8], most: usize) -> Result<Option<Bytes>, NoMemory>
     ensures { IfOk result (ReadsAs (IsByteString text.now most)) }
 {

@@ -12,4 +12,4 @@ pub use byte_string::read_byte_string;
 pub use flag::read_flag;
 pub use laws::{one_spelling, words};
 pub use number::read_plain_number;
-pub use split::{split_at_byte, split_word};
+pub use split::{cut_number, split_at_byte, split_word, strip, strip_end};
