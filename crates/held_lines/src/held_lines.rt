@@ -30,8 +30,7 @@ impl Model for HeldLines {
         × HasNo 10 (slice_range h.bytes.items h.start h.searched) };
 }
 
-/// Drops the bytes before `start`, where there are any. It takes no memory, and costs the bytes
-/// from
+/// Drops the bytes before `start`, if there are any. It takes no memory, and costs the bytes from
 /// `start` on.
 fn compact(bytes: &mut Vec<u8>, start: &mut usize, searched: &mut usize)
     requires within { start.old ≤ length bytes.old.items }
@@ -90,8 +89,8 @@ impl HeldLines {
         self.searched = 0;
     }
 
-    /// Adds a piece. What is held moves once after something was taken. The only error is want of
-    /// memory, and nothing has changed then.
+    /// Adds a piece. What is held moves once after something was taken. The only error is to be out
+    /// of memory, and nothing has changed then.
     pub fn feed(&mut self, piece: &[u8]) -> Result<(), NoMemory>
         ensures ok { OnOk result (self.new ≡ self.old ++ piece.now) }
         ensures err { OnErr result (self.new ≡ self.old) }
