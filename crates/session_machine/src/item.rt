@@ -1,8 +1,8 @@
 //! An item, and how long it lives.
-ghost use Rattle.std.specs.Prelude.{◌≡◌, ◌≤◌, ◌^◌};
+ghost use Rattle.std.specs.Prelude.{◌≡◌, ◌≤◌, ◌^◌, IfOk};
 ghost use Rattle.session_machine.specs.Liveness as liveness;
 
-use asp_base::Bytes;
+use asp_base::{Bytes, NoMemory};
 
 /// The lock on an item.
 #[derive(Clone, Copy, Debug, PartialEq, Eq)]
@@ -20,7 +20,7 @@ pub struct Item {
     pub body: Bytes,
     /// How long it lives untouched, 1 to 525,600 minutes.
     pub minutes: u64,
-    /// Whether it is uninitialised, so that its next reader is told so.
+    /// Whether it has the uninitialized mark, of which its next reader is told.
     pub fresh: bool,
     /// The lock on it, where there is one.
     pub holder: Option<Hold>,
@@ -28,6 +28,28 @@ pub struct Item {
     pub touched: u64,
     /// The moment at which it ends, however often it is touched, in milliseconds, below 2^63.
     pub ends: u64,
+}
+
+impl Item {
+    /// The item once more, as another owner of its content, which is not copied once it is shared.
+    pub fn share(&self) -> Result<Item, NoMemory>
+        ensures { IfOk result (λ other. other ≡ self.now) }
+    {
+        Ok(Item {
+            body: self.body.share()?,
+            ..*self
+        })
+    }
+
+    /// The same item, of whose content `share` makes no copy.
+    pub fn into_shared(self) -> Result<Item, NoMemory>
+        ensures { IfOk result (λ other. other ≡ self) }
+    {
+        Ok(Item {
+            body: self.body.into_shared()?,
+            ..self
+        })
+    }
 }
 
 /// The moment from which on the item counts as absent, in milliseconds.
