@@ -19,7 +19,7 @@ use Rattle.std.proofs.lemmas.Map.Text.{is_eq-slice_cmp}
 use Rattle.asp_messages.specs.Ranges.{KeyFits}
 use Rattle.session_machine.specs.declared.item.Item.{Item}
 use Rattle.session_machine.specs.Liveness.{ItemFits, expiry}
-use Rattle.keeper.specs.declared.dues.Due.{Due}
+use Rattle.keeper.specs.declared.map_keeper.Due.{Due}
 use Rattle.keeper.specs.Due.{ComesBefore, IsDue, IsFirstDue}
 use Rattle.keeper.specs.Items.{Sets}
 use Rattle.keeper.specs.Ordered.{item_of, due_cmp, expires_at, HoldsDues, IsKept, MovesDue}

@@ -1,4 +1,4 @@
--- A keeper whose listed calls fail, as contracts see it.
+-- A keeper with faults at its listed calls, as contracts see it.
 use Rattle.std.specs.Prelude.{◌≡◌, ℕ, ◌+◌, ◌-◌, ◌^◌, List, Option, min, Contains, Result, IsErrOf}
 use Rattle.asp_base.specs.InMemory.{one_more}
 use Rattle.session_machine.specs.declared.item.Item.{Item}
@@ -7,14 +7,15 @@ use Rattle.keeper.specs.declared.errors.KeepError.{KeepError}
 use Rattle.keeper.specs.declared.errors.KeepError.TheVariants.{Fault}
 use Rattle.keeper.specs.declared.keeping.Keeper.{Ghosts}
 
--- The keeper that it wraps, how many calls were made, which of them fail, and how many did.
+-- The keeper that it wraps, how many calls were made, which are listed, and how many of these were
+-- made: its own faults.
 pub record Wrapped (K : Type 0) : Type 0 where
   pub inner : K
   pub calls : ℕ
   pub fails : List ℕ
   pub faults : ℕ
 
--- its own failures and those of the keeper that it wraps, up to the last value of a `u64`
+-- its own faults and those of the keeper that it wraps, up to the last value of a `u64`
 abbrev pub all_faults : ℕ → ℕ → ℕ
 all_faults own inner = min (own + inner) (2 ^ 64 - 1)
 
@@ -27,7 +28,7 @@ module _ {K : Type 0} (G : Ghosts K) where
   abbrev pub FloorStays : Wrapped K → Wrapped K → Type 0
   FloorStays old new = G.floor new.inner ≡ G.floor old.inner
 
-  -- how often it and the keeper that it wraps failed
+  -- the count of its faults and of those of the keeper that it wraps
   abbrev pub faults_of : Wrapped K → ℕ
   faults_of k = all_faults k.faults (G.count k.inner)
 
@@ -35,8 +36,8 @@ module _ {K : Type 0} (G : Ghosts K) where
   abbrev pub HasCauseInAll : {T : Type 0} → Wrapped K → Wrapped K → Result T KeepError → Type 0
   HasCauseInAll old new result = HasKeepCause (faults_of old) (faults_of new) result
 
-  -- Each call is counted. A listed call fails, which is counted, and does not reach the keeper that
-  -- it wraps; every other call is that keeper's, with its causes.
+  -- Each call is counted. A listed call is answered by a fault, which is counted, and does not reach
+  -- the keeper that it wraps; every other call is that keeper's, with its causes.
   pub record FailsListed {T : Type 0} (old new : Wrapped K) (result : Result T KeepError)
       : Type 0 where
     pub calls : new.calls ≡ one_more old.calls

@@ -9,7 +9,7 @@ use Rattle.std.specs.BTreeSet.{BTreeSet, contains}
 use Rattle.asp_messages.specs.Ranges.{KeyFits}
 use Rattle.session_machine.specs.declared.item.Item.{Item}
 use Rattle.session_machine.specs.Liveness.{ItemFits, expiry}
-use Rattle.keeper.specs.declared.dues.Due.{Due}
+use Rattle.keeper.specs.declared.map_keeper.Due.{Due}
 
 -- the item of the key
 abbrev pub item_of : List (List ℕ × Item) → List ℕ → Option Item
@@ -25,7 +25,7 @@ abbrev pub expires_at : Option Item → ℕ → Bool
 expires_at None moment = false
 expires_at (Some item) moment = nat_eq (expiry item) moment
 
--- the set holds the moment and the key of each item of the map, and nothing else
+-- the set has the moment and the key of each item of the map, and nothing else
 abbrev pub HoldsDues : (List ℕ → Option Item) → BTreeSet Due → Type 0
 HoldsDues items dues =
     (due : Due) → contains due_cmp dues due ≡ expires_at (items due.key) due.expiry

@@ -30,7 +30,7 @@ pub record IsFirstPair (pairs : List (List ℕ × Item)) (t : ℕ) (pair : List 
   pub first : All (λ other. expiry other.1 ≤ t
       → ComesBefore (expiry pair.1) pair.0 (expiry other.1) other.0) pairs
 
--- this pair is due, or no item has expired
+-- this pair is to be removed next, or no item has expired
 abbrev pub IsFirstOf : List (List ℕ × Item) → ℕ → Option (List ℕ × Item) → Type 0
 IsFirstOf pairs t None = All (λ pair. t < expiry pair.1) pairs
 IsFirstOf pairs t (Some pair) = IsFirstPair pairs t pair

@@ -1,4 +1,4 @@
-//! A keeper that fails where it is told to.
+//! A keeper with faults where it is told to have them.
 ghost use Rattle.std.specs.Prelude.{◌≡◌, ◌↔◌, ℕ, ◌<◌, ◌^◌, Some, None, IfOk, IfSome, IsTrue, OnOk, OnErr, Contains, if◌then◌else◌};
 ghost use Rattle.asp_base.specs.InMemory.{one_more};
 ghost use Rattle.asp_messages.specs.Ranges.{KeyFits};
@@ -12,7 +12,7 @@ use asp_base::Bytes;
 use session_machine::Item;
 use std::marker::Model;
 
-/// A keeper over another that fails the listed calls. Its calls of `get`, `put`, `cut` and `due`
+/// A keeper over another that answers the listed calls by faults. Its calls of `get`, `put`, `cut` and `due`
 /// are numbered together, from 0.
 #[derive(Debug, Drop)]
 pub struct FaultyKeeper<K> {
@@ -36,8 +36,9 @@ impl<K> Model for FaultyKeeper<K> {
 }
 
 impl<K> FaultyKeeper<K> {
-    /// A keeper over `inner`. `fails` lists the numbers of the calls that fail; a failed call is
-    /// counted and does not reach `inner`, and every other call is that of `inner`.
+    /// A keeper over `inner`. `fails` lists the numbers of the calls that are answered by a fault;
+    /// such a fault is counted, its call does not reach `inner`, and every other call is that of
+    /// `inner`.
     pub fn new(inner: K, fails: Vec<u64>) -> FaultyKeeper<K>
         ensures { result ≡ record { inner = inner; calls = 0; fails = fails.items; faults = 0 } }
     {
@@ -49,7 +50,7 @@ impl<K> FaultyKeeper<K> {
         }
     }
 
-    /// Counts the call, and answers whether it fails.
+    /// Counts the call, and its fault where it is listed; answers whether it is.
     fn fails_next(&mut self) -> bool
         ensures listed { IsTrue result ↔ Contains self.old.fails self.old.calls }
         ensures inner { self.new.inner ≡ self.old.inner }

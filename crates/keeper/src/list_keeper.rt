@@ -15,7 +15,7 @@ use session_machine::Item;
 use std::alloc::Global;
 use std::marker::Model;
 
-/// A keeper in memory, over a list of pairs of key and item. It never fails, but may want memory.
+/// A keeper in memory, over a list of pairs of key and item. It counts no fault, but may want memory.
 /// Contracts see the list.
 #[derive(Debug, Drop)]
 pub struct ListKeeper {

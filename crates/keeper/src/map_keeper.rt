@@ -1,23 +1,32 @@
 //! A keeper over a map in the order of its keys, with the set of the moments at which items expire.
-ghost use Rattle.std.specs.Prelude.{◌≡◌, ℕ, [], Some, None, IfOk, IfSome, IsOk, OnOk, OnErr};
+ghost use Rattle.std.specs.Prelude.{◌≡◌, ℕ, [], Some, None, true, IfOk, IfSome, IsOk, OnOk, OnErr};
+ghost use Rattle.std.specs.BTreeSet.{contains};
 ghost use Rattle.asp_messages.specs.Ranges.{KeyFits};
-ghost use Rattle.session_machine.specs.Liveness.{ItemFits};
+ghost use Rattle.session_machine.specs.Liveness as liveness;
 ghost use Rattle.keeper.specs.Causes.{HasKeepCause};
 ghost use Rattle.keeper.specs.Due.{TellsDue};
 ghost use Rattle.keeper.specs.Items.{Sets};
-ghost use Rattle.keeper.specs.Ordered.{HoldsDues, item_of};
+ghost use Rattle.keeper.specs.Ordered.{HoldsDues, IsKept, MovesDue, due_cmp, item_of};
 
-use crate::ordered::{cut, due, get, put};
-use crate::{Due, KeepError, Keeper};
-use asp_base::Bytes;
-use session_machine::Item;
+use crate::{KeepError, Keeper};
+use asp_base::{Bytes, NoMemory};
+use session_machine::{Item, expiry};
 use std::alloc::Global;
 use std::collections::{BTreeMap, BTreeSet};
 use std::marker::Model;
 
+/// When the item of a key expires. Ordered by the moment, and then by the key.
+#[derive(Debug, PartialEq, Eq, PartialOrd, Ord, Drop)]
+pub struct Due {
+    /// The moment from which on the item counts as absent, in milliseconds.
+    pub expiry: u64,
+    /// The key.
+    pub key: Bytes,
+}
+
 /// A keeper in memory whose calls take a time that grows with the logarithm of the count of keys.
-/// It never fails, but may want memory. Contracts see its pairs of key and item, in the order of
-/// the keys.
+/// It counts no fault, but may want memory. Contracts see its pairs of key and item, in the order
+/// of the keys.
 #[derive(Debug, Drop)]
 pub struct MapKeeper {
     items: BTreeMap<Bytes, Item>,
@@ -72,37 +81,55 @@ impl Keeper for MapKeeper {
     fn get(&mut self, key: &Bytes) -> Result<Option<Item>, KeepError>
         requires { KeyFits key.now }
         ensures item { IfOk result (λ item. item ≡ item_of self.old key.now) }
-        ensures fits { IfOk result (λ item. IfSome item ItemFits) }
+        ensures fits { IfOk result (λ item. IfSome item liveness.ItemFits) }
         ensures absent { item_of self.old key.now ≡ None → IsOk result }
         ensures same { self.new ≡ self.old }
         ensures cause { HasKeepCause 0 0 result }
     {
-        Ok(get(&self.items, key)?)
+        match self.items.get(key) {
+            Some(item) => Ok(Some(item.share()?)),
+            None => Ok(None),
+        }
     }
 
+    // Where the key has an item, one search finds it, and it is replaced in its place.
     fn put(&mut self, key: &Bytes, item: Item) -> Result<(), KeepError>
         requires key { KeyFits key.now }
-        requires item { ItemFits item }
+        requires item { liveness.ItemFits item }
         ensures ok { OnOk result (Sets (item_of self.old) (item_of self.new) key.now (Some item)) }
         ensures err { OnErr result (self.new ≡ self.old) }
         ensures cause { HasKeepCause 0 0 result }
     {
-        put(&mut self.items, &mut self.dues, key, item)?;
+        let item = item.into_shared()?;
+        match self.items.get_mut(key) {
+            Some(there) => {
+                reschedule(&mut self.dues, key, expiry(there), expiry(&item))?;
+                *there = item;
+            }
+            None => add(&mut self.items, &mut self.dues, key, item)?,
+        }
         Ok(())
     }
 
-    // It takes no memory.
+    // It takes no memory, and copies nothing.
     fn cut(&mut self, key: &Bytes) -> Result<(), KeepError>
         requires { KeyFits key.now }
         ensures ok { IsOk result }
         ensures cut { Sets (item_of self.old) (item_of self.new) key.now None }
         ensures cause { HasKeepCause 0 0 result }
     {
-        cut(&mut self.items, &mut self.dues, key);
+        let Some((own, item)) = self.items.remove_entry(key) else {
+            return Ok(());
+        };
+        let due = Due {
+            expiry: expiry(&item),
+            key: own,
+        };
+        self.dues.remove(&due);
         Ok(())
     }
 
-    // It takes no memory where no item has expired.
+    // Only the least of the set is looked at. It takes no memory where no item has expired.
     fn due(&mut self, t: u64) -> Result<Option<Bytes>, KeepError>
         ensures due { IfOk result (TellsDue (Some (item_of self.old)) t) }
         ensures fits { IfOk result (λ key. IfSome key KeyFits) }
@@ -110,10 +137,70 @@ impl Keeper for MapKeeper {
         ensures same { self.new ≡ self.old }
         ensures cause { HasKeepCause 0 0 result }
     {
-        Ok(due(&self.items, &self.dues, t)?)
+        let Some(least) = self.dues.first() else {
+            return Ok(None);
+        };
+        if least.expiry > t {
+            return Ok(None);
+        }
+        Ok(Some(least.key.share()?))
     }
 
     fn faults(&self) -> u64 {
         0
     }
+}
+
+/// Gives a key that has no item this one. What the map has taken is taken back where the set has no
+/// memory.
+fn add(
+    items: &mut BTreeMap<Bytes, Item>,
+    dues: &mut BTreeSet<Due>,
+    key: &Bytes,
+    item: Item,
+) -> Result<(), NoMemory>
+    requires key { KeyFits key.now }
+    requires item { liveness.ItemFits item }
+    requires kept { IsKept items.old.entries dues.old }
+    requires absent { item_of items.old.entries key.now ≡ None }
+    ensures ok { OnOk result
+        (Sets (item_of items.old.entries) (item_of items.new.entries) key.now (Some item)) }
+    ensures err { OnErr result (items.new.entries ≡ items.old.entries) }
+    ensures kept { IsKept items.new.entries dues.new }
+{
+    let own = key.share()?;
+    let due = Due {
+        expiry: expiry(&item),
+        key: own.share()?,
+    };
+    items.insert(own, item)?;
+    if let Err(_) = dues.insert(due) {
+        items.remove(key);
+        return Err(NoMemory);
+    }
+    Ok(())
+}
+
+/// Moves the pair of the key from one moment to another. The new pair goes in before the old one is
+/// taken out: where there is no memory for it nothing has changed.
+fn reschedule(dues: &mut BTreeSet<Due>, key: &Bytes, from: u64, to: u64) -> Result<(), NoMemory>
+    requires { contains due_cmp dues.old (record { expiry = from; key = key.now }) ≡ true }
+    ensures ok { OnOk result (MovesDue dues.old dues.new key.now from to) }
+    ensures err { OnErr result (dues.new.keys ≡ dues.old.keys) }
+{
+    if from == to {
+        return Ok(());
+    }
+    let own = key.share()?;
+    let old = Due {
+        expiry: from,
+        key: own.share()?,
+    };
+    let new = Due {
+        expiry: to,
+        key: own,
+    };
+    dues.insert(new)?;
+    dues.remove(&old);
+    Ok(())
 }

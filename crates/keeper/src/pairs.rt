@@ -5,7 +5,6 @@ ghost use Rattle.keeper.specs.Pairs.{IsMap, IsPlaceOf, item_at};
 ghost use Rattle.asp_messages.specs.Ranges.{KeyFits};
 ghost use Rattle.session_machine.specs.Liveness.{ItemFits};
 
-use crate::items::share;
 use asp_base::{Bytes, NoMemory};
 use session_machine::Item;
 use std::alloc::Global;
@@ -30,7 +29,7 @@ pub fn get(pairs: &[(Bytes, Item)], key: &Bytes) -> Result<Option<Item>, NoMemor
     ensures absent { item_at pairs.now key.now ≡ None → IsOk result }
 {
     match find(pairs, key) {
-        Some(item) => Ok(Some(share(item)?)),
+        Some(item) => Ok(Some(item.share()?)),
         None => Ok(None),
     }
 }

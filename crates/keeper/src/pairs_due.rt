@@ -22,23 +22,23 @@ fn comes_before(pair: &(Bytes, Item), other: &(Bytes, Item)) -> bool
     expires < later || (expires == later && pair.0.cmp(&other.0).is_le())
 }
 
-/// The one of both that is to be removed first at the moment `t`, where one has expired; `first`
+/// The one of both that is to be removed next at the moment `t`, where one has expired; `soonest`
 /// has expired already.
 fn sooner<'a>(
-    first: Option<&'a (Bytes, Item)>,
+    soonest: Option<&'a (Bytes, Item)>,
     pair: &'a (Bytes, Item),
     t: u64,
 ) -> Option<&'a (Bytes, Item)>
     requires pair { liveness.ItemFits pair.now.1 }
-    requires first { IfSome (option_copied first) (λ best. liveness.ItemFits best.1) }
-    ensures { (before : List (List ℕ × Item)) → IsFirstOf before t (option_copied first.entry)
+    requires soonest { IfSome (option_copied soonest) (λ best. liveness.ItemFits best.1) }
+    ensures { (before : List (List ℕ × Item)) → IsFirstOf before t (option_copied soonest.entry)
         → IsFirstOf (before ++ pair.now ∷ []) t (option_copied result) }
 {
     if live(&pair.1, t) {
-        return first;
+        return soonest;
     }
-    match first {
-        Some(best) if comes_before(best, pair) => first,
+    match soonest {
+        Some(best) if comes_before(best, pair) => soonest,
         _ => Some(pair),
     }
 }
@@ -49,11 +49,11 @@ fn first_due(pairs: &[(Bytes, Item)], t: u64) -> Option<&(Bytes, Item)>
     requires { IsMap pairs.now }
     ensures { IsFirstOf pairs.now t (option_copied result) }
 {
-    let mut first = None;
+    let mut soonest = None;
     for pair in pairs {
-        first = sooner(first, pair, t);
+        soonest = sooner(soonest, pair, t);
     }
-    first
+    soonest
 }
 
 /// A copy of the key of the item that has expired at the moment `t` and expired first, the least

@@ -1,7 +1,7 @@
 use Rattle.std.proofs.Common.{Some, true, ◌∙◌}
 use Rattle.session_machine.specs.Liveness.{expiry}
 use Rattle.keeper.proofs.OrderedLemmas.{Sets-updates, IsKept-add, IsKept-unchanged, Updates-key, Updates-due, taken_back}
-use Rattle.keeper.proofs.ordered.add.Goals as goal
+use Rattle.keeper.proofs.map_keeper.add.Goals as goal
 
 pub returns-in-Err-clause-err : goal.returns-in-Err-clause-err
 returns-in-Err-clause-err c =

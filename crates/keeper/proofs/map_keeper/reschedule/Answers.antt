@@ -1,6 +1,6 @@
 use Rattle.std.proofs.Common.{true, false, refl, ◌∙◌}
 use Rattle.keeper.proofs.OrderedLemmas.{MovesDue-apart, MovesDue-same, Updates-due}
-use Rattle.keeper.proofs.ordered.reschedule.Goals as goal
+use Rattle.keeper.proofs.map_keeper.reschedule.Goals as goal
 
 pub returns-then-from-to-clause-ok : goal.returns-then-from-to-clause-ok
 returns-then-from-to-clause-ok c =

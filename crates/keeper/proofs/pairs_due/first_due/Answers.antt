@@ -13,10 +13,10 @@ loop-pair-preserved c =
     let more : take (i + 1) pairs ≡ take i pairs ++ pair ∷ [] =
     take_more pairs i pair c.loop-pair-test.true
     ∙ ap (λ (p : List ℕ × Item). take i pairs ++ p ∷ []) (sym c.pair-item.is) in
-    subst (λ front. IsFirstOf front c.args.t (option_copied c.sooner-first.result)) (sym more)
-    (c.sooner-first.ensures (take i pairs) c.loop-pair.invariant)
+    subst (λ front. IsFirstOf front c.args.t (option_copied c.sooner-soonest.result)) (sym more)
+    (c.sooner-soonest.ensures (take i pairs) c.loop-pair.invariant)
 
-pub sooner-first-requires-clause-first : goal.sooner-first-requires-clause-first
-sooner-first-requires-clause-first c =
+pub sooner-soonest-requires-clause-soonest : goal.sooner-soonest-requires-clause-soonest
+sooner-soonest-requires-clause-soonest c =
     IsFirstOf-fits c.args.pairs.now c.loop-pair.pair-index c.args.t
-    (option_copied c.loop-pair.first) c.requires c.loop-pair.invariant
+    (option_copied c.loop-pair.soonest) c.requires c.loop-pair.invariant
