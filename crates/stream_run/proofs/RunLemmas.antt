@@ -1,33 +1,34 @@
 -- What a consumer did goes on from call to call.
-use Rattle.std.proofs.Common.{◌≡◌, ℕ, ◌+◌, ◌<◌, ◌≤◌, ◌^◌, Bool, true, false, List, [], ◌++◌, length, take, Option, None, Some, refl, sym, ap, ◌∙◌, arith, subst, inl, inr, append_assoc, append-nil, length-append}
+use Rattle.std.proofs.Common.{◌≡◌, ℕ, ◌+◌, ◌<◌, ◌≤◌, Bool, true, false, List, [], ◌++◌, length, take, Option, None, Some, refl, sym, ap, ◌∙◌, arith, subst, inl, inr, append_assoc, append-nil, length-append}
 use Rattle.std.specs.Prelude.{◌⊎◌, nat_lt}
 use Rattle.std.proofs.lemmas.Bool.{cases_lt, lt-ltb, le-ltb}
+use Rattle.asp_base.specs.Limits.{most_input}
 use Rattle.asp_base.specs.Outside.{Gives, IsAtEnd, Takes, TakesFront}
 use Rattle.asp_base.proofs.OutsideLemmas.{Takes-nil, Takes-trans, Gives-nil, Gives-trans}
 use Rattle.stream_run.specs.declared.consumer.Consumer.{Ghosts}
 use Rattle.stream_run.specs.declared.ending.End.{End}
 use Rattle.stream_run.specs.declared.ending.End.TheVariants as ends
-use Rattle.stream_run.specs.Feeding.{Follows, IsShort}
+use Rattle.stream_run.specs.Feeding.{Follows, GoesOn, IsShort, OverAnyhow, OverAtEnd}
 use Rattle.stream_run.specs.Flow.{Flow, flow}
 use Rattle.stream_run.specs.Ending.{StopsAs, HasRoom, IsOver, EndsAs, Ended, IfFewer, IsComplete}
-use Rattle.stream_run.specs.Running.{Running}
+use Rattle.stream_run.specs.Running.{Running, Stops}
 
 -- ---- what was given is written
 
 module _ {V : Type 0} (Is : V → List ℕ → List ℕ → Type 0) (Gave : List ℕ → List ℕ → Type 0)
-    (Lacks : List ℕ → Type 0) (start sink sink' : Option (List ℕ)) (due last : List ℕ)
-    (taken : Takes start sink due)
+    (Lacks : List ℕ → Type 0) (untaken sink sink' : Option (List ℕ)) (given last : List ℕ)
+    (taken : Takes untaken sink given)
   where
     -- all that the consumer gave at its end was written
-    pub stops_over : (over : V) → Is over due last → Takes sink sink' last
-        → StopsAs Is Gave Lacks (ends.Over over) start sink'
-    stops_over over is wrote = (due, last, is, Takes-trans start sink sink' due last taken wrote)
+    pub stops_over : (over : V) → Is over given last → Takes sink sink' last
+        → StopsAs Is Gave Lacks (ends.Over over) untaken sink'
+    stops_over over is wrote = (given, last, is, Takes-trans untaken sink sink' given last taken wrote)
 
     -- or a front of that
-    pub stops_in_part : ((over : V) × Is over due last) ⊎ Gave due last → 0 < length last
-        → TakesFront sink sink' last → StopsAs Is Gave Lacks ends.WriteFault start sink'
+    pub stops_in_part : ((over : V) × Is over given last) ⊎ Gave given last → 0 < length last
+        → TakesFront sink sink' last → StopsAs Is Gave Lacks ends.WriteFault untaken sink'
     stops_in_part is some (n, le, wrote) =
-        (due, last, n, is, some, le, Takes-trans start sink sink' due (take n last) taken wrote)
+        (given, last, n, is, some, le, Takes-trans untaken sink sink' given (take n last) taken wrote)
 
 -- with other relations that follow
 pub stops_as : {V : Type 0} (Is Is' : V → List ℕ → List ℕ → Type 0) (Gave : List ℕ → List ℕ
@@ -52,18 +53,18 @@ stops_as Is Is' Gave Lacks ends.Long sink sink' follows stops = absurd stops
 module _ {C : Type 0} (Went : C → C → List ℕ → List ℕ → Type 0) where
   -- what was given was written, and the consumer went on by it
   abbrev pub GoesBy : Option (List ℕ) → Option (List ℕ) → C → C → Type 0
-  GoesBy sink sink' old new = (given : List ℕ) × Takes sink sink' given
-      × Follows Went old (λ first taken due. Went first new taken (due ++ given))
+  GoesBy sink sink' old new = (wrote : List ℕ) × Takes sink sink' wrote
+      × Follows Went old (λ start fed given. Went start new fed (given ++ wrote))
 
   pub goes_further : (sink sink' sink'' : Option (List ℕ)) (old middle new : C) (out : List ℕ)
       → GoesBy sink sink' old middle → Takes sink' sink'' out
-      → Follows Went middle (λ first taken due. Went first new taken (due ++ out))
+      → Follows Went middle (λ start fed given. Went start new fed (given ++ out))
       → GoesBy sink sink'' old new
-  goes_further sink sink' sink'' old middle new out (given, wrote, goes) writes further = (
-    given ++ out,
-    Takes-trans sink sink' sink'' given out wrote writes,
-    λ first taken due went. subst (Went first new taken) (append_assoc due given out)
-        (further first taken (due ++ given) (goes first taken due went)),
+  goes_further sink sink' sink'' old middle new out (wrote, takes, goes) writes further = (
+    wrote ++ out,
+    Takes-trans sink sink' sink'' wrote out takes writes,
+    λ start fed given went. subst (Went start new fed) (append_assoc given wrote out)
+        (further start fed (given ++ wrote) (goes start fed given went)),
   )
 
 -- ---- the loop
@@ -77,13 +78,13 @@ has_room count left most all = elim (cases_lt 0 left) [
       (let same : count ≡ most = omega arith in same)
 ]
 
-module _ {C V : Type 0} (G : Ghosts C V) (most : ℕ) (first : C) where
+module _ {C V : Type 0} (G : Ghosts C V) (most : ℕ) (start : C) where
   -- a stop is an ending
   ends_of : (now : C) (end : End V) (f : Flow) (taken : List ℕ)
-      → StopsAs (IsOver G most first now f.source' taken) (G.gave first now taken)
-      (G.lacks first now taken)
+      → StopsAs (IsOver G most start now f.source' taken) (G.gave GoesOn start now taken)
+      (G.lacks start now taken)
       end f.sink f.sink'
-      → EndsAs G most first now end f taken
+      → EndsAs G most start now end f taken
   ends_of now (ends.Over over) f taken stops = stops
   ends_of now ends.WriteFault f taken stops = stops
   ends_of now ends.NoMemory f taken stops = stops
@@ -91,127 +92,120 @@ module _ {C V : Type 0} (G : Ghosts C V) (most : ℕ) (first : C) where
   ends_of now ends.Long f taken stops = absurd stops
 
   pub Running-start : (source : Option (List ℕ × List ℕ)) (sink : Option (List ℕ))
-      → G.went first first [] []
-      → Running G.went most first first (flow source source sink sink) most
+      → G.went start start [] []
+      → Running G.went most start start (flow source source sink sink) most
   Running-start source sink begun = record {
     taken = [];
-    due = [];
-    given = Gives-nil source;
+    given = [];
+    read = Gives-nil source;
     went = begun;
     written = Takes-nil sink;
     left_is = omega arith;
   }
 
-  module _ (now : C) (f : Flow) (left : ℕ) (run : Running G.went most first now f left) where
+  module _ (now : C) (f : Flow) (left : ℕ) (run : Running G.went most start now f left) where
     -- the consumer did what it could
     pub Running-on : (now' : C) (sink'' : Option (List ℕ)) → GoesBy G.went f.sink' sink'' now now'
-        → Running G.went most first now' (record f { sink' = sink'' }) left
-    Running-on now' sink'' (given, wrote, goes) = record {
+        → Running G.went most start now' (record f { sink' = sink'' }) left
+    Running-on now' sink'' (wrote, takes, goes) = record {
       taken = run.taken;
-      due = run.due ++ given;
-      given = run.given;
-      went = goes first run.taken run.due run.went;
-      written = Takes-trans f.sink f.sink' sink'' run.due given run.written wrote;
+      given = run.given ++ wrote;
+      read = run.read;
+      went = goes start run.taken run.given run.went;
+      written = Takes-trans f.sink f.sink' sink'' run.given wrote run.written takes;
       left_is = run.left_is;
     }
 
     -- and was fed a piece
     pub Running-fed : (now' : C) (source'' : Option (List ℕ × List ℕ)) (piece : List ℕ) (left' : ℕ)
         → Gives f.source' source'' piece
-        → Follows G.went now (λ first taken due. G.went first now' (taken ++ piece) due)
+        → Follows G.went now (λ start fed given. G.went start now' (fed ++ piece) given)
         → left' + length piece ≡ left
-        → Running G.went most first now' (record f { source' = source'' }) left'
+        → Running G.went most start now' (record f { source' = source'' }) left'
     Running-fed now' source'' piece left' gives follows less = record {
       taken = run.taken ++ piece;
-      due = run.due;
-      given = Gives-trans f.source f.source' source'' run.taken piece run.given gives;
-      went = follows first run.taken run.due run.went;
+      given = run.given;
+      read = Gives-trans f.source f.source' source'' run.taken piece run.read gives;
+      went = follows start run.taken run.given run.went;
       written = run.written;
       left_is = omega (arith, run.left_is, less, length-append run.taken piece);
     }
 
-    pub Running-short : most ≤ 2 ^ 40 → IsShort G.went now left
-    Running-short fits = (first, run.taken, run.due, run.went, omega (arith, run.left_is, fits))
+    pub Running-short : most ≤ most_input → IsShort G.went now left
+    Running-short fits = (start, run.taken, run.given, run.went, omega (arith, run.left_is, fits))
 
     -- the consumer stopped behind the bytes that were taken
     pub ended-stopped : (now' : C) (sink'' : Option (List ℕ)) (end : End V)
-        → ((start : Option (List ℕ))
-        → Follows G.went now (λ first taken due. Takes start f.sink' due
-        → StopsAs (λ over. G.breaks (record { more = nat_lt 0 left; over = over }) first now' taken)
-        (G.gave first now' taken)
-        (G.lacks first now' taken) end start sink''))
-        → Ended G most first now' (record f { sink' = sink'' }) end
+        → Stops G (OverAnyhow (nat_lt 0 left)) now now' f.sink' sink'' end
+        → Ended G most start now' (record f { sink' = sink'' }) end
     ended-stopped now' sink'' end stops = record {
       taken = run.taken;
-      given = run.given;
+      given = run.read;
       within = omega (arith, run.left_is);
       ends = ends_of now' end (record f { sink' = sink'' }) run.taken
           (stops_as
-          (λ over. G.breaks (record { more = nat_lt 0 left; over = over }) first now' run.taken)
-          (IsOver G most first now' f.source' run.taken) (G.gave first now' run.taken)
-          (G.lacks first now' run.taken) end f.sink sink''
+          (λ over. G.gave (OverAnyhow (nat_lt 0 left) over) start now' run.taken)
+          (IsOver G most start now' f.source' run.taken) (G.gave GoesOn start now' run.taken)
+          (G.lacks start now' run.taken) end f.sink sink''
           (λ over whole last is.
           inr (nat_lt 0 left, is, has_room (length run.taken) left most run.left_is))
-          (stops f.sink first run.taken run.due run.went run.written));
+          (stops f.sink start run.taken run.given run.went run.written));
     }
 
-    pub ended-long : left ≡ 0 → G.waits false now → Ended G most first now f ends.Long
+    pub ended-long : left ≡ 0 → G.waits false now → Ended G most start now f ends.Long
     ended-long none waits = record {
       taken = run.taken;
-      given = run.given;
+      given = run.read;
       within = omega (arith, run.left_is);
-      ends = (run.due, run.went, waits, omega (arith, run.left_is, none), run.written);
+      ends = (run.given, run.went, waits, omega (arith, run.left_is, none), run.written);
     }
 
     -- the input ended, and the consumer with it
     pub ended-closed : (now' : C) (source'' : Option (List ℕ × List ℕ)) (sink'' : Option (List ℕ))
         (end : End V) → 0 < left → Gives f.source' source'' [] → IsAtEnd source''
-        → ((start : Option (List ℕ))
-        → Follows G.went now (λ first taken due. Takes start f.sink' due
-        → StopsAs (λ over. G.closes over first now' taken) (G.gave first now' taken)
-        (G.lacks first now' taken) end start sink''))
-        → Ended G most first now' (record f { source' = source''; sink' = sink'' }) end
+        → Stops G OverAtEnd now now' f.sink' sink'' end
+        → Ended G most start now' (record f { source' = source''; sink' = sink'' }) end
     ended-closed now' source'' sink'' end some gives at_end stops = record {
       taken = run.taken;
       given = subst (Gives f.source source'') (append-nil run.taken)
-          (Gives-trans f.source f.source' source'' run.taken [] run.given gives);
+          (Gives-trans f.source f.source' source'' run.taken [] run.read gives);
       within = omega (arith, run.left_is);
       ends = ends_of now' end (record f { source' = source''; sink' = sink'' }) run.taken
-          (stops_as (λ over. G.closes over first now' run.taken)
-          (IsOver G most first now' source'' run.taken) (G.gave first now' run.taken)
-          (G.lacks first now' run.taken) end f.sink sink''
+          (stops_as (λ over. G.gave (OverAtEnd over) start now' run.taken)
+          (IsOver G most start now' source'' run.taken) (G.gave GoesOn start now' run.taken)
+          (G.lacks start now' run.taken) end f.sink sink''
           (λ over whole last is. inl (is, at_end, omega (arith, run.left_is, some)))
-          (stops f.sink first run.taken run.due run.went run.written));
+          (stops f.sink start run.taken run.given run.went run.written));
     }
 
     pub ended-read : (source'' : Option (List ℕ × List ℕ)) → 0 < left → Gives f.source' source'' []
-        → G.waits true now → Ended G most first now (record f { source' = source'' }) ends.ReadFault
+        → G.waits true now → Ended G most start now (record f { source' = source'' }) ends.ReadFault
     ended-read source'' some gives waits = record {
       taken = run.taken;
       given = subst (Gives f.source source'') (append-nil run.taken)
-          (Gives-trans f.source f.source' source'' run.taken [] run.given gives);
+          (Gives-trans f.source f.source' source'' run.taken [] run.read gives);
       within = omega (arith, run.left_is);
-      ends = (run.due, run.went, waits, omega (arith, run.left_is, some), run.written);
+      ends = (run.given, run.went, waits, omega (arith, run.left_is, some), run.written);
     }
 
     -- there was no memory for a piece
     pub ended-unfed : (now' : C) (source'' : Option (List ℕ × List ℕ)) (piece : List ℕ)
         → Gives f.source' source'' piece → length piece ≤ left
-        → Follows G.went now (λ first taken due. G.lacks first now' (taken ++ piece) due)
-        → Ended G most first now' (record f { source' = source'' }) ends.NoMemory
+        → Follows G.went now (λ start fed given. G.lacks start now' (fed ++ piece) given)
+        → Ended G most start now' (record f { source' = source'' }) ends.NoMemory
     ended-unfed now' source'' piece gives fits follows = record {
       taken = run.taken ++ piece;
-      given = Gives-trans f.source f.source' source'' run.taken piece run.given gives;
+      given = Gives-trans f.source f.source' source'' run.taken piece run.read gives;
       within = omega (arith, run.left_is, fits, length-append run.taken piece);
-      ends = (run.due, follows first run.taken run.due run.went, run.written);
+      ends = (run.given, follows start run.taken run.given run.went, run.written);
     }
 
 -- ---- completeness
 
-module _ {C V : Type 0} (G : Ghosts C V) (most : ℕ) (first now : C) where
+module _ {C V : Type 0} (G : Ghosts C V) (most : ℕ) (start now : C) where
   complete_told : (old new : List ℕ × List ℕ) (f : Flow) (end : End V) → f.source ≡ Some old
-      → f.source' ≡ Some new → Ended G most first now f end → (end ≡ ends.ReadFault → ⊥)
-      → (end ≡ ends.WriteFault → ⊥) → length old.1 < most → IsComplete G first now f end old.1
+      → f.source' ≡ Some new → Ended G most start now f end → (end ≡ ends.ReadFault → ⊥)
+      → (end ≡ ends.WriteFault → ⊥) → length old.1 < most → IsComplete G start now f end old.1
   complete_told old new f (ends.Over over) is_old is_new run read write fewer =
       (run.ends.0, run.ends.1, is run.ends.2, run.ends.3)
     where
@@ -219,12 +213,12 @@ module _ {C V : Type 0} (G : Ghosts C V) (most : ℕ) (first now : C) where
       given = subst (λ s. Gives (Some old) s run.taken) is_new
           (subst (λ s. Gives s f.source' run.taken) is_old run.given)
 
-      is : IsOver G most first now f.source' run.taken over run.ends.0 run.ends.1
-          → G.closes over first now old.1 run.ends.0 run.ends.1
+      is : IsOver G most start now f.source' run.taken over run.ends.0 run.ends.1
+          → G.gave (OverAtEnd over) start now old.1 run.ends.0 run.ends.1
           ⊎ ((front : List ℕ) × (behind : List ℕ) × (more : Bool) × (old.1 ≡ front ++ behind)
-          × G.breaks (record { more = more; over = over }) first now front run.ends.0 run.ends.1)
+          × G.gave (OverAnyhow more over) start now front run.ends.0 run.ends.1)
       is (inl (closes, at_end, some)) =
-          inl (subst (λ t. G.closes over first now t run.ends.0 run.ends.1)
+          inl (subst (λ t. G.gave (OverAtEnd over) start now t run.ends.0 run.ends.1)
           (sym (given.1 ∙ ap (λ t. run.taken ++ t) (subst IsAtEnd is_new at_end)
           ∙ append-nil run.taken))
           closes)
@@ -243,9 +237,9 @@ module _ {C V : Type 0} (G : Ghosts C V) (most : ℕ) (first now : C) where
 
   pub complete_of : (source source' : Option (List ℕ × List ℕ)) (sink sink' : Option (List ℕ))
       (end : End V)
-      → Ended G most first now (flow source source' sink sink') end → (end ≡ ends.ReadFault → ⊥)
+      → Ended G most start now (flow source source' sink sink') end → (end ≡ ends.ReadFault → ⊥)
       → (end ≡ ends.WriteFault → ⊥)
-      → IfFewer source most (IsComplete G first now (flow source source' sink sink') end)
+      → IfFewer source most (IsComplete G start now (flow source source' sink sink') end)
   complete_of None source' sink sink' end run read write = tt
   complete_of (Some old) None sink sink' end run read write = absurd run.given
   complete_of (Some old) (Some new) sink sink' end run read write =

@@ -4,6 +4,7 @@ use Rattle.asp_base.specs.Outside.{Gives, IsAtEnd, Takes}
 use Rattle.stream_run.specs.declared.consumer.Consumer.{Ghosts}
 use Rattle.stream_run.specs.declared.ending.End.{End}
 use Rattle.stream_run.specs.declared.ending.End.TheVariants as ends
+use Rattle.stream_run.specs.Feeding.{GoesOn, OverAnyhow, OverAtEnd}
 use Rattle.stream_run.specs.Flow.{Flow}
 
 module _ {V : Type 0} (Is : V → List ℕ → List ℕ → Type 0) (Gave : List ℕ → List ℕ → Type 0)
@@ -16,7 +17,7 @@ module _ {V : Type 0} (Is : V → List ℕ → List ℕ → Type 0) (Gave : List
   StopsAs ends.WriteFault sink sink' = (whole : List ℕ) × (last : List ℕ) × (count : ℕ)
       × (((over : V) × Is over whole last) ⊎ Gave whole last)
       × (0 < length last) × (count ≤ length last) × Takes sink sink' (whole ++ take count last)
-  StopsAs ends.NoMemory sink sink' = (due : List ℕ) × Lacks due × Takes sink sink' due
+  StopsAs ends.NoMemory sink sink' = (given : List ℕ) × Lacks given × Takes sink sink' given
   StopsAs ends.ReadFault sink sink' = ⊥
   StopsAs ends.Long sink sink' = ⊥
 
@@ -25,33 +26,33 @@ abbrev pub HasRoom : Bool → ℕ → ℕ → Type 0
 HasRoom true count most = count < most
 HasRoom false count most = count ≡ most
 
-module _ {C V : Type 0} (G : Ghosts C V) (most : ℕ) (first now : C) where
+module _ {C V : Type 0} (G : Ghosts C V) (most : ℕ) (start now : C) where
   -- the consumer is over: the input ended there, or whatever follows
   abbrev pub IsOver : Option (List ℕ × List ℕ) → List ℕ → V → List ℕ → List ℕ → Type 0
   IsOver source' taken over whole last =
-      (G.closes over first now taken whole last × IsAtEnd source' × (length taken < most))
-      ⊎ ((more : Bool) × G.breaks (record { more = more; over = over }) first now taken whole
+      (G.gave (OverAtEnd over) start now taken whole last × IsAtEnd source' × (length taken < most))
+      ⊎ ((more : Bool) × G.gave (OverAnyhow more over) start now taken whole
       last
       × HasRoom more (length taken) most)
 
   -- What holds at each ending, of the source and the sink after it, and of the bytes that were
   -- taken.
   abbrev pub EndsAs : End V → Flow → List ℕ → Type 0
-  EndsAs ends.ReadFault f taken = (due : List ℕ) × G.went first now taken due × G.waits true now
-      × (length taken < most) × Takes f.sink f.sink' due
-  EndsAs ends.Long f taken = (due : List ℕ) × G.went first now taken due × G.waits false now
-      × (length taken ≡ most) × Takes f.sink f.sink' due
+  EndsAs ends.ReadFault f taken = (given : List ℕ) × G.went start now taken given × G.waits true now
+      × (length taken < most) × Takes f.sink f.sink' given
+  EndsAs ends.Long f taken = (given : List ℕ) × G.went start now taken given × G.waits false now
+      × (length taken ≡ most) × Takes f.sink f.sink' given
   EndsAs end f taken =
-      StopsAs (IsOver f.source' taken) (G.gave first now taken) (G.lacks first now taken) end f.sink
+      StopsAs (IsOver f.source' taken) (G.gave GoesOn start now taken) (G.lacks start now taken) end f.sink
       f.sink'
 
 -- A run: these bytes were taken, at most the most, and it ended so.
-pub record Ended {C V : Type 0} (G : Ghosts C V) (most : ℕ) (first now : C) (f : Flow) (end : End V)
+pub record Ended {C V : Type 0} (G : Ghosts C V) (most : ℕ) (start now : C) (f : Flow) (end : End V)
     : Type 0 where
   pub taken : List ℕ
   pub given : Gives f.source f.source' taken
   pub within : length taken ≤ most
-  pub ends : EndsAs G most first now end f taken
+  pub ends : EndsAs G most start now end f taken
 
 -- ---- completeness
 
@@ -60,14 +61,14 @@ abbrev pub IfFewer : Option (List ℕ × List ℕ) → ℕ → (List ℕ → Typ
 IfFewer None most Fact = ⊤
 IfFewer (Some told) most Fact = length told.1 < most → Fact told.1
 
-module _ {C V : Type 0} (G : Ghosts C V) (first now : C) (f : Flow) where
+module _ {C V : Type 0} (G : Ghosts C V) (start now : C) (f : Flow) where
   -- the consumer is over with this input, at its end or behind a front of it, and all that it gave
   -- was written; or memory was wanting
   abbrev pub IsComplete : End V → List ℕ → Type 0
   IsComplete (ends.Over over) input = (whole : List ℕ) × (last : List ℕ)
-      × (G.closes over first now input whole last
+      × (G.gave (OverAtEnd over) start now input whole last
       ⊎ ((front : List ℕ) × (behind : List ℕ) × (more : Bool) × (input ≡ front ++ behind)
-      × G.breaks (record { more = more; over = over }) first now front whole last))
+      × G.gave (OverAnyhow more over) start now front whole last))
       × Takes f.sink f.sink' (whole ++ last)
   IsComplete ends.NoMemory input = ⊤
   IsComplete ends.ReadFault input = ⊥

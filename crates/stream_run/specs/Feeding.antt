@@ -1,28 +1,31 @@
 -- What is said of a consumer at each call.
-use Rattle.std.specs.Prelude.{Bool, ℕ, ◌+◌, ◌≤◌, ◌^◌, List, length, ⊤}
+use Rattle.std.specs.Prelude.{Bool, ℕ, ◌+◌, ◌≤◌, List, ◌++◌, length, ⊤}
+use Rattle.asp_base.specs.Limits.{most_input}
 use Rattle.stream_run.specs.declared.consumer.Step.{Step}
 use Rattle.stream_run.specs.declared.consumer.Step.TheVariants as steps
 
--- the most bytes of a piece
-abbrev pub most_piece : ℕ
-most_piece = 16384
+-- How it goes on with a consumer that gave something: it isn't over; it is over so, whatever
+-- follows (and whether it might have been fed more); or it is over so, where no bytes follow.
+pub data Going (V : Type 0) : Type 0 where
+  GoesOn : Going V
+  OverAnyhow : (more : Bool) (over : V) → Going V
+  OverAtEnd : (over : V) → Going V
+
+-- the bytes that were given in two parts
+abbrev pub both_parts : List ℕ × List ℕ → List ℕ
+both_parts parts = parts.0 ++ parts.1
 
 module _ {C : Type 0} (Went : C → C → List ℕ → List ℕ → Type 0) where
-  -- wherever the consumer stood, this follows: of the consumer that the run began with, the bytes
+  -- wherever the consumer stood, this follows: of the consumer at the start of the run, the bytes
   -- that it was fed, and those that it gave
   abbrev pub Follows : C → (C → List ℕ → List ℕ → Type 0) → Type 0
-  Follows old Fact = (first : C) (taken due : List ℕ) → Went first old taken due
-      → Fact first taken due
+  Follows old Fact = (start : C) (fed given : List ℕ) → Went start old fed given
+      → Fact start fed given
 
-  -- the bytes that it was fed, and so many more, are at most 2^40
+  -- the bytes that it was fed, and so many more, are at most the most of an input
   abbrev pub IsShort : C → ℕ → Type 0
-  IsShort now count = (first : C) × (taken : List ℕ) × (due : List ℕ) × Went first now taken due
-      × (length taken + count ≤ 2 ^ 40)
-
--- What a consumer found where it is over whatever follows, and whether it might have been fed more.
-pub record Broken (V : Type 0) : Type 0 where
-  pub more : Bool
-  pub over : V
+  IsShort now count = (start : C) × (fed : List ℕ) × (given : List ℕ) × Went start now fed given
+      × (length fed + count ≤ most_input)
 
 -- a fact of how a consumer is over
 abbrev pub IfOver : {V : Type 0} → Step V → (V → Type 0) → Type 0

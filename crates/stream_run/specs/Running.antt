@@ -1,15 +1,28 @@
 -- Inside a run: where it stands between two pieces.
-use Rattle.std.specs.Prelude.{◌≡◌, ℕ, ◌+◌, List, length}
+use Rattle.std.specs.Prelude.{◌≡◌, ℕ, ◌+◌, List, length, Option}
 use Rattle.asp_base.specs.Outside.{Gives, Takes}
+use Rattle.stream_run.specs.declared.consumer.Consumer.{Ghosts}
+use Rattle.stream_run.specs.declared.ending.End.{End}
+use Rattle.stream_run.specs.Ending.{StopsAs}
+use Rattle.stream_run.specs.Feeding.{Follows, Going, GoesOn}
 use Rattle.stream_run.specs.Flow.{Flow}
 
--- A run up to now: these bytes were taken, those are due for them and were written, and so many may
+-- A run up to now: these bytes were taken, those were given for them and written, and so many may
 -- still be taken.
-pub record Running {C : Type 0} (Went : C → C → List ℕ → List ℕ → Type 0) (most : ℕ) (first now : C)
+pub record Running {C : Type 0} (Went : C → C → List ℕ → List ℕ → Type 0) (most : ℕ) (start now : C)
     (f : Flow) (left : ℕ) : Type 0 where
   pub taken : List ℕ
-  pub due : List ℕ
-  pub given : Gives f.source f.source' taken
-  pub went : Went first now taken due
-  pub written : Takes f.sink f.sink' due
+  pub given : List ℕ
+  pub read : Gives f.source f.source' taken
+  pub went : Went start now taken given
+  pub written : Takes f.sink f.sink' given
   pub left_is : length taken + left ≡ most
+
+-- Wherever the run stood, it stops so behind a consumer that did something, or was asked for the
+-- last time: over, if it is, in this way.
+abbrev pub Stops : {C V : Type 0} → Ghosts C V → (V → Going V) → C → C → Option (List ℕ)
+    → Option (List ℕ) → End V → Type 0
+Stops G way old new sink sink' end = (untaken : Option (List ℕ)) → Follows G.went old
+    (λ start fed given. Takes untaken sink given
+    → StopsAs (λ over. G.gave (way over) start new fed) (G.gave GoesOn start new fed)
+    (G.lacks start new fed) end untaken sink')

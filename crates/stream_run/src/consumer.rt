@@ -1,12 +1,10 @@
 //! What takes the bytes of an input, and gives those of an output.
-ghost use Rattle.std.specs.Prelude.{◌≡◌, ◌+◌, ◌<◌, ◌≤◌, ◌++◌, ℕ, Bool, List, length, true, OnOk, OnErr, IfOk};
-ghost use Rattle.stream_run.specs.Feeding.{Broken, Follows, IsShort, IfOver, most_piece};
+ghost use Rattle.std.specs.Prelude.{◌≡◌, ◌<◌, ◌≤◌, ◌++◌, ℕ, Bool, List, length, true, OnOk, OnErr, IfOk};
+ghost use Rattle.asp_base.specs.Limits.{most_piece};
+ghost use Rattle.stream_run.specs.Feeding.{Going, GoesOn, OverAnyhow, OverAtEnd, Follows, IsShort, IfOver, both_parts};
 
 use crate::Status;
 use asp_base::NoMemory;
-
-/// The most bytes of a piece that is fed.
-pub const MOST_PIECE: usize = 16_384;
 
 /// What a consumer did when it was asked to go on.
 #[derive(Clone, Copy, Debug, PartialEq, Eq)]
@@ -23,27 +21,37 @@ pub enum Step<V> {
 
 /// What is fed the bytes of an input, and gives those of an output, one thing after the other.
 ///
-/// The relations are of the consumer as it was when the run began, and as it is now; so its
-/// settings are read from the first, and stay what they were.
+/// Its relations are of the consumer at the start of a run and the consumer now; so its settings
+/// are read from the first, and stay what they were. Behind them stand the bytes that it was fed
+/// since the start, those that it gave, and where it is asked for, those that it gave last.
+///
+/// A counter of bytes, for one, gives nothing until the input ends, and then the number in a line.
+///
+/// - `went start now fed given` is `now.count ≡ length fed` and `given ≡ []`.
+/// - `waits more now` is always so: it can do nothing before the end.
+/// - `gave going start now fed given last` is never so where it goes on, or is over anyhow, since
+///   no step of it gives anything; where it is over at the end, it is `given ≡ []` and
+///   `last ≡ decimal (length fed) ++ codes "\n"`.
+/// - `lacks start now fed given` is never so, since it takes no memory.
+/// - `work now` is 0: each step of it answers `More`.
+/// - `parts now` is that line, and no body.
+///
+/// So a run in which it is over has written the number of the bytes of the whole input. The
+/// smallest one that is used is the `Replayer` of `journal_replay`.
 pub trait Consumer {
     /// What it finds where it is over.
     type Over: Status;
 
-    /// It was fed the first bytes, and gave the second.
+    /// Where it stands between two calls: it was fed the first bytes, and gave the second.
     ghost went: { Self → Self → List ℕ → List ℕ → Type 0 };
 
     /// It did all that it can with the bytes that it was fed; the truth is whether it may be fed
     /// more.
     ghost waits: { Bool → Self → Type 0 };
 
-    /// It was fed the first bytes, gave the second before, and the third last.
-    ghost gave: { Self → Self → List ℕ → List ℕ → List ℕ → Type 0 };
-
-    /// The same, and it is over so, whatever follows.
-    ghost breaks: { Broken Self.Over → Self → Self → List ℕ → List ℕ → List ℕ → Type 0 };
-
-    /// The same, and it is over so where no bytes follow.
-    ghost closes: { Self.Over → Self → Self → List ℕ → List ℕ → List ℕ → Type 0 };
+    /// What it gave last: it was fed the first bytes, gave the second before, and the third last;
+    /// and so it goes on with it.
+    ghost gave: { Going Self.Over → Self → Self → List ℕ → List ℕ → List ℕ → Type 0 };
 
     /// Memory was wanting: the first bytes were for it, and the second were given before.
     ghost lacks: { Self → Self → List ℕ → List ℕ → Type 0 };
@@ -51,11 +59,8 @@ pub trait Consumer {
     /// More than the things that it can do with the bytes that it was fed.
     ghost work: { Self → ℕ };
 
-    /// The first part of what it gave last.
-    ghost head: { Self → List ℕ };
-
-    /// The second part of what it gave last.
-    ghost body: { Self → List ℕ };
+    /// What it gave last, in two parts.
+    ghost parts: { Self → List ℕ × List ℕ };
 
     /// Takes a piece of the input.
     fn feed(&mut self, piece: &[u8]) -> Result<(), NoMemory>
@@ -63,41 +68,35 @@ pub trait Consumer {
         requires piece { length piece.now ≤ most_piece }
         requires short { IsShort went self.old (length piece.now) }
         ensures ok { OnOk result (Follows went self.old
-            (λ first taken due. went first self.new (taken ++ piece.now) due)) }
+            (λ start fed given. went start self.new (fed ++ piece.now) given)) }
         ensures err { OnErr result (Follows went self.old
-            (λ first taken due. lacks first self.new (taken ++ piece.now) due)) };
+            (λ start fed given. lacks start self.new (fed ++ piece.now) given)) };
 
     /// Does the next thing. Where `more` is false, no more bytes will be fed.
     fn step(&mut self, more: bool) -> Step<Self::Over>
         requires short { IsShort went self.old 0 }
-        ensures did { result ≡ Step.Did → Follows went self.old (λ first taken due.
-            went first self.new taken (due ++ (head self.new ++ body self.new))
-            × gave first self.new taken due (head self.new ++ body self.new)) }
+        ensures did { result ≡ Step.Did → Follows went self.old (λ start fed given.
+            went start self.new fed (given ++ both_parts (parts self.new))
+            × gave GoesOn start self.new fed given (both_parts (parts self.new))) }
         ensures fewer { result ≡ Step.Did → work self.new < work self.old }
         ensures more { result ≡ Step.More → Follows went self.old
-            (λ first taken due. went first self.new taken due) }
+            (λ start fed given. went start self.new fed given) }
         ensures waits { result ≡ Step.More → waits more self.new }
-        ensures over { IfOver result (λ over. Follows went self.old
-            (λ first taken due.
-            breaks (record { more = more; over = over }) first self.new taken due
-            (head self.new ++ body self.new))) }
+        ensures over { IfOver result (λ over. Follows went self.old (λ start fed given.
+            gave (OverAnyhow more over) start self.new fed given (both_parts (parts self.new)))) }
         ensures no_memory { result ≡ Step.NoMemory → Follows went self.old
-            (λ first taken due. lacks first self.new taken due) };
+            (λ start fed given. lacks start self.new fed given) };
 
     /// The input has ended: what was found. What this gives is to be written.
     fn finish(&mut self) -> Result<Self::Over, NoMemory>
         requires waits { waits true self.old }
-        ensures over { IfOk result (λ over. Follows went self.old
-            (λ first taken due.
-            closes over first self.new taken due (head self.new ++ body self.new))) }
+        ensures over { IfOk result (λ over. Follows went self.old (λ start fed given.
+            gave (OverAtEnd over) start self.new fed given (both_parts (parts self.new)))) }
         ensures no_memory { OnErr result (Follows went self.old
-            (λ first taken due. lacks first self.new taken due)) };
+            (λ start fed given. lacks start self.new fed given)) };
 
-    /// The first part of what it gave last, as the head of a message. It takes no memory.
-    fn head(&self) -> &[u8]
-        ensures { result.now ≡ head self.now };
-
-    /// The second part of what it gave last, as the body of a message. It takes no memory.
-    fn body(&self) -> &[u8]
-        ensures { result.now ≡ body self.now };
+    /// What it gave last, as the head and the body of a message. It takes no memory.
+    fn parts(&self) -> (&[u8], &[u8])
+        ensures head { result.0.now ≡ (parts self.now).0 }
+        ensures body { result.1.now ≡ (parts self.now).1 };
 }

@@ -2,6 +2,8 @@
 ghost use Rattle.std.specs.Prelude.{◌≡◌, ℕ};
 ghost use Rattle.stream_run.specs.Status.{status_number};
 
+use asp_base::status;
+
 /// How a run ends. The first of these in time decides.
 #[derive(Clone, Copy, Debug, PartialEq, Eq)]
 pub enum End<V> {
@@ -35,10 +37,10 @@ impl<V: Status> End<V> {
     {
         match self {
             End::Over(verdict) => verdict.number(),
-            End::ReadFault => 4,
-            End::WriteFault => 5,
-            End::NoMemory => 6,
-            End::Long => 7,
+            End::ReadFault => status::READ_FAULT,
+            End::WriteFault => status::WRITE_FAULT,
+            End::NoMemory => status::NO_MEMORY,
+            End::Long => status::TOO_LONG,
         }
     }
 }

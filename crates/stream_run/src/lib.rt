@@ -5,11 +5,8 @@
 mod consumer;
 mod ending;
 mod main_loop;
-mod pieces;
 mod steps;
-mod writing;
 
-pub use consumer::{Consumer, MOST_PIECE, Step};
+pub use consumer::{Consumer, Step};
 pub use ending::{End, Status};
 pub use main_loop::run;
-pub use writing::{Text, write_text};

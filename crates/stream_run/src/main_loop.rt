@@ -1,47 +1,51 @@
 //! The loop from a source to a sink.
-ghost use Rattle.std.specs.Prelude.{◌≡◌, ◌≤◌, ◌^◌, []};
+ghost use Rattle.std.specs.Prelude.{◌≡◌, ◌<◌, ◌≤◌, ◌++◌, [], List, ℕ, length, true};
 ghost use Rattle.asp_base.specs.Causes.{Rose};
+ghost use Rattle.asp_base.specs.Limits.{most_input};
+ghost use Rattle.asp_base.specs.Outside.{Gives, IsAtEnd};
+ghost use Rattle.asp_base.specs.Pieces.{IfFed};
 ghost use Rattle.stream_run.specs.Ending.{Ended, IfFewer, IsComplete};
+ghost use Rattle.stream_run.specs.Feeding.{Follows, IsShort};
 ghost use Rattle.stream_run.specs.Flow.{flow};
 
-use crate::pieces::{Piece, take_piece};
-use crate::steps::{close, work_off};
-use crate::writing::Text;
-use crate::{Consumer, End, MOST_PIECE};
-use asp_base::{Sink, Source};
+use crate::steps::{WriteRoom, close, work_off};
+use crate::{Consumer, End};
+use asp_base::{Failed, MOST_PIECE, NoMemory, Piece, Sink, Source, read_piece};
 
-fn run_pieces<C: Consumer, S: Source, T: Sink>(
-    most: u64,
+/// Reads at most `most` bytes into the buffer, and feeds them to the consumer.
+fn take_piece<C: Consumer, S: Source>(
     consumer: &mut C,
     source: &mut S,
-    sink: &mut T,
-) -> End<C::Over>
-    requires most { most ≤ 2 ^ 40 }
-    requires begun { C.went consumer.old consumer.old [] [] }
-    ensures ran { Ended ⟦<C as Consumer>⟧ most consumer.old consumer.new
-        (flow (S.told source.old) (S.told source.new) (T.taken sink.old) (T.taken sink.new))
-        result }
-    ensures read { result ≡ End.ReadFault → Rose (S.faults source.old) (S.faults source.new) }
-    ensures write { result ≡ End.WriteFault → Rose (T.faults sink.old) (T.faults sink.new) }
-    ensures source_count { S.faults source.old ≤ S.faults source.new }
-    ensures sink_count { T.faults sink.old ≤ T.faults sink.new }
+    buf: &mut [u8],
+    most: u64,
+) -> Piece
+    requires some { 0 < most }
+    requires buf { length buf.old ≡ MOST_PIECE }
+    requires waits { C.waits true consumer.old }
+    requires short { IsShort C.went consumer.old most }
+    ensures fed { IfFed result (λ n. (0 < n) × (n ≤ most) × ((piece : List ℕ) × (length piece ≡ n)
+        × Gives (S.told source.old) (S.told source.new) piece
+        × Follows C.went consumer.old
+        (λ start fed given. C.went start consumer.new (fed ++ piece) given))) }
+    ensures end { result ≡ Piece.End → IsAtEnd (S.told source.new)
+        × Gives (S.told source.old) (S.told source.new) [] × (consumer.new ≡ consumer.old) }
+    ensures no_memory { result ≡ Piece.NoMemory → (piece : List ℕ) × (length piece ≤ most)
+        × Gives (S.told source.old) (S.told source.new) piece
+        × Follows C.went consumer.old
+        (λ start fed given. C.lacks start consumer.new (fed ++ piece) given) }
+    ensures fault { result ≡ Piece.ReadFault → Gives (S.told source.old) (S.told source.new) []
+        × Rose (S.faults source.old) (S.faults source.new) × (consumer.new ≡ consumer.old) }
+    ensures faults { S.faults source.old ≤ S.faults source.new }
+    ensures room { length buf.new ≡ length buf.old }
 {
-    let mut buf = [0u8; MOST_PIECE];
-    let mut text = Text::new();
-    let mut left = most;
-    'pieces: loop {
-        if let Some(end) = work_off(consumer, left > 0, sink, &mut text) {
-            return end;
-        }
-        if left == 0 {
-            return End::Long;
-        }
-        match take_piece(consumer, source, &mut buf, left) {
-            Piece::Fed(count) => left -= count,
-            Piece::End => return close(consumer, sink, &mut text),
-            Piece::ReadFault => return End::ReadFault,
-            Piece::NoMemory => return End::NoMemory,
-        }
+    let count = match read_piece(source, buf, most) {
+        Ok(0) => return Piece::End,
+        Ok(count) => count,
+        Err(Failed) => return Piece::ReadFault,
+    };
+    match consumer.feed(&buf[..count]) {
+        Ok(()) => Piece::Fed(count as u64),
+        Err(NoMemory) => Piece::NoMemory,
     }
 }
 
@@ -54,7 +58,7 @@ pub fn run<C: Consumer, S: Source, T: Sink>(
     source: &mut S,
     sink: &mut T,
 ) -> End<C::Over>
-    requires most { most ≤ 2 ^ 40 }
+    requires most { most ≤ most_input }
     requires begun { C.went consumer.old consumer.old [] [] }
     ensures ran { Ended ⟦<C as Consumer>⟧ most consumer.old consumer.new
         (flow (S.told source.old) (S.told source.new) (T.taken sink.old) (T.taken sink.new))
@@ -73,5 +77,21 @@ pub fn run<C: Consumer, S: Source, T: Sink>(
         (flow (S.told source.old) (S.told source.new) (T.taken sink.old) (T.taken sink.new))
         result) }
 {
-    run_pieces(most, consumer, source, sink)
+    let mut buf = [0u8; MOST_PIECE];
+    let mut room = WriteRoom::new();
+    let mut left = most;
+    'pieces: loop {
+        if let Some(end) = work_off(consumer, left > 0, sink, &mut room) {
+            return end;
+        }
+        if left == 0 {
+            return End::Long;
+        }
+        match take_piece(consumer, source, &mut buf, left) {
+            Piece::Fed(count) => left -= count,
+            Piece::End => return close(consumer, sink, &mut room),
+            Piece::ReadFault => return End::ReadFault,
+            Piece::NoMemory => return End::NoMemory,
+        }
+    }
 }

@@ -1,47 +1,79 @@
 //! The steps of a consumer behind one piece, each written before the next.
-ghost use Rattle.std.specs.Prelude.{◌≡◌, ◌≤◌, ◌++◌, List, ℕ, Option, None, Some, true, IfSome};
-ghost use Rattle.asp_base.specs.Causes.{Rose};
-ghost use Rattle.asp_base.specs.Outside.{Takes};
-ghost use Rattle.stream_run.specs.Feeding.{Follows, IsShort};
-ghost use Rattle.stream_run.specs.Ending.{StopsAs};
+ghost use Rattle.std.specs.Prelude.{◌≡◌, ◌<◌, ◌≤◌, ◌++◌, List, ℕ, None, Some, true, OnOk, OnErr, IfSome, length};
+ghost use Rattle.asp_base.specs.Causes.{HasCause, Rose};
+ghost use Rattle.asp_base.specs.Outside.{Takes, TakesFront};
+ghost use Rattle.stream_run.specs.Feeding.{Follows, IsShort, OverAnyhow, OverAtEnd, both_parts};
+ghost use Rattle.stream_run.specs.Running.{Stops};
 
-use crate::writing::{Text, write_given};
 use crate::{Consumer, End, Step};
-use asp_base::{Failed, NoMemory, Sink};
+use asp_base::{Failed, FixedText, NoMemory, Sink, write_text, write_whole};
 
-/// Lets the consumer do what it can, and writes what each thing gives before the next, with `text`
-/// as the room for what goes out in one call. `None` where more bytes are wanted, else how the run
-/// ends.
+/// Room for the two parts that go out in one call of the sink, which a run keeps.
+pub type WriteRoom = FixedText<1_024>;
+
+/// Writes a text that is not split, where there is any.
+fn write_one<T: Sink>(sink: &mut T, text: &[u8]) -> Result<(), Failed>
+    ensures taken { OnOk result (Takes (T.taken sink.old) (T.taken sink.new) text.now) }
+    ensures in_part { OnErr result (TakesFront (T.taken sink.old) (T.taken sink.new) text.now) }
+    ensures some { OnErr result (0 < length text.now) }
+    ensures cause { HasCause (T.faults sink.old) (T.faults sink.new) result }
+{
+    if text.is_empty() {
+        return Ok(());
+    }
+    write_whole(sink, text)
+}
+
+/// Writes what the consumer gave last, where there is any; it takes no memory. After `Failed` a
+/// front of it was taken.
+fn write_given<C: Consumer, T: Sink>(
+    consumer: &C,
+    sink: &mut T,
+    room: &mut WriteRoom,
+) -> Result<(), Failed>
+    ensures taken { OnOk result (Takes (T.taken sink.old) (T.taken sink.new)
+        (both_parts (C.parts consumer.now))) }
+    ensures in_part { OnErr result (TakesFront (T.taken sink.old) (T.taken sink.new)
+        (both_parts (C.parts consumer.now))) }
+    ensures some { OnErr result (0 < length (both_parts (C.parts consumer.now))) }
+    ensures cause { HasCause (T.faults sink.old) (T.faults sink.new) result }
+{
+    let (head, body) = consumer.parts();
+    if body.is_empty() {
+        return write_one(sink, head);
+    }
+    write_text(sink, room, head, body)
+}
+
+/// Lets the consumer do what it can, and writes what each thing gives before the next, with `room`
+/// for what goes out in one call. `None` where more bytes are wanted, else how the run ends.
 pub fn work_off<C: Consumer, T: Sink>(
     consumer: &mut C,
     more: bool,
     sink: &mut T,
-    text: &mut Text,
+    room: &mut WriteRoom,
 ) -> Option<End<C::Over>>
     requires short { IsShort C.went consumer.old 0 }
-    ensures goes { result ≡ None → (given : List ℕ)
-        × Takes (T.taken sink.old) (T.taken sink.new) given
+    ensures goes { result ≡ None → (wrote : List ℕ)
+        × Takes (T.taken sink.old) (T.taken sink.new) wrote
         × Follows C.went consumer.old
-        (λ first taken due. C.went first consumer.new taken (due ++ given)) }
+        (λ start fed given. C.went start consumer.new fed (given ++ wrote)) }
     ensures waits { result ≡ None → C.waits more consumer.new }
-    ensures ends { IfSome result (λ end. (start : Option (List ℕ)) → Follows C.went consumer.old
-        (λ first taken due. Takes start (T.taken sink.old) due
-        → StopsAs (λ over. C.breaks (record { more = more; over = over }) first consumer.new taken)
-        (C.gave first consumer.new taken) (C.lacks first consumer.new taken)
-        end start (T.taken sink.new))) }
+    ensures stops { IfSome result (λ end. Stops ⟦<C as Consumer>⟧ (OverAnyhow more)
+        consumer.old consumer.new (T.taken sink.old) (T.taken sink.new) end) }
     ensures read { result ≡ Some End.ReadFault → ⊥ }
     ensures write { result ≡ Some End.WriteFault → Rose (T.faults sink.old) (T.faults sink.new) }
     ensures faults { T.faults sink.old ≤ T.faults sink.new }
 {
     'steps: loop {
         match consumer.step(more) {
-            Step::Did => match write_given(consumer, sink, text) {
+            Step::Did => match write_given(consumer, sink, room) {
                 Ok(()) => {}
                 Err(Failed) => return Some(End::WriteFault),
             },
             Step::More => return None,
             Step::Over(over) => {
-                return match write_given(consumer, sink, text) {
+                return match write_given(consumer, sink, room) {
                     Ok(()) => Some(End::Over(over)),
                     Err(Failed) => Some(End::WriteFault),
                 };
@@ -52,19 +84,20 @@ pub fn work_off<C: Consumer, T: Sink>(
 }
 
 /// Lets the consumer end where the input has ended, and writes what that gives.
-pub fn close<C: Consumer, T: Sink>(consumer: &mut C, sink: &mut T, text: &mut Text) -> End<C::Over>
+pub fn close<C: Consumer, T: Sink>(
+    consumer: &mut C,
+    sink: &mut T,
+    room: &mut WriteRoom,
+) -> End<C::Over>
     requires waits { C.waits true consumer.old }
-    ensures ends { (start : Option (List ℕ)) → Follows C.went consumer.old
-        (λ first taken due. Takes start (T.taken sink.old) due
-        → StopsAs (λ over. C.closes over first consumer.new taken)
-        (C.gave first consumer.new taken) (C.lacks first consumer.new taken)
-        result start (T.taken sink.new)) }
+    ensures stops { Stops ⟦<C as Consumer>⟧ OverAtEnd
+        consumer.old consumer.new (T.taken sink.old) (T.taken sink.new) result }
     ensures read { result ≡ End.ReadFault → ⊥ }
     ensures write { result ≡ End.WriteFault → Rose (T.faults sink.old) (T.faults sink.new) }
     ensures faults { T.faults sink.old ≤ T.faults sink.new }
 {
     match consumer.finish() {
-        Ok(over) => match write_given(consumer, sink, text) {
+        Ok(over) => match write_given(consumer, sink, room) {
             Ok(()) => End::Over(over),
             Err(Failed) => End::WriteFault,
         },

@@ -1,7 +1,7 @@
 use Rattle.std.proofs.Common.{◌≤◌}
 use Rattle.stream_run.specs.Flow.{flow}
 use Rattle.stream_run.specs.Running.{Running}
-use Rattle.stream_run.proofs.main_loop.run_pieces.Given as goal
+use Rattle.stream_run.proofs.main_loop.run.Given as goal
 
 abbrev pub invariant-pieces : goal.invariant-pieces
 invariant-pieces g l = record {

@@ -1,13 +1,14 @@
-use Rattle.std.proofs.Common.{inl, ◌++◌}
+use Rattle.std.proofs.Common.{inl}
+use Rattle.stream_run.specs.Feeding.{GoesOn, OverAtEnd, both_parts}
 use Rattle.stream_run.proofs.RunLemmas.{stops_in_part}
 use Rattle.stream_run.proofs.steps.close.Goals as goal
 
-pub returns-in-Err-write_given-clause-ends : goal.returns-in-Err-write_given-clause-ends
-returns-in-Err-write_given-clause-ends g c = λ start first taken due went wrote.
-    stops_in_part (λ over. g.C.Consumer.closes over first c.finish.new.self taken)
-    (g.C.Consumer.gave first c.finish.new.self taken)
-    (g.C.Consumer.lacks first c.finish.new.self taken)
-    start (g.T.Sink.taken c.args.sink.now) (g.T.Sink.taken c.write_given.new.sink) due
-    (g.C.Consumer.head c.finish.new.self ++ g.C.Consumer.body c.finish.new.self) wrote
-    (inl (c.in-Ok.over, c.in-Ok.ensures.over first taken due went))
+pub returns-in-Err-write_given-clause-stops : goal.returns-in-Err-write_given-clause-stops
+returns-in-Err-write_given-clause-stops g c = λ untaken start fed given went wrote.
+    stops_in_part (λ over. g.C.Consumer.gave (OverAtEnd over) start c.finish.new.self fed)
+    (g.C.Consumer.gave GoesOn start c.finish.new.self fed)
+    (g.C.Consumer.lacks start c.finish.new.self fed)
+    untaken (g.T.Sink.taken c.args.sink.now) (g.T.Sink.taken c.write_given.new.sink) given
+    (both_parts (g.C.Consumer.parts c.finish.new.self)) wrote
+    (inl (c.in-Ok.over, c.in-Ok.ensures.over start fed given went))
     c.in-Err-write_given.ensures.some c.in-Err-write_given.ensures.in_part

@@ -5,9 +5,9 @@ use Rattle.stream_run.proofs.steps.work_off.Given as goal
 
 abbrev pub invariant-steps : goal.invariant-steps
 invariant-steps g l = record {
-  goes : (given : List ℕ) × Takes (g.T.Sink.taken l.fn.sink) (g.T.Sink.taken l.sink) given
+  goes : (wrote : List ℕ) × Takes (g.T.Sink.taken l.fn.sink) (g.T.Sink.taken l.sink) wrote
       × Follows g.C.Consumer.went l.fn.consumer
-      (λ first taken due. g.C.Consumer.went first l.consumer taken (due ++ given));
+      (λ start fed given. g.C.Consumer.went start l.consumer fed (given ++ wrote));
   short : IsShort g.C.Consumer.went l.consumer 0;
   faults : g.T.Sink.faults l.fn.sink ≤ g.T.Sink.faults l.sink;
 }
