@@ -10,8 +10,9 @@ use Rattle.message_framing.specs.declared.reader.Found.{Found}
 use Rattle.message_framing.specs.declared.reader.Found.TheVariants as founds
 use Rattle.message_framing.specs.declared.reader.State.{State}
 use Rattle.message_framing.specs.declared.reader.State.TheVariants as states
-use Rattle.message_framing.specs.Framed.{Framed, Gives, IsRead, IfFound, Stands, is_broken_state, spent_of}
+use Rattle.message_framing.specs.Framed.{Framed, Gives, IsRead, IfFound, Stands, TakesFramed, is_broken_state, looks_of}
 use Rattle.message_framing.specs.HeadEnd.{seen, EndsHead}
+use Rattle.message_framing.specs.Held.{Reading, TakesMessage}
 use Rattle.message_framing.specs.Looks.{IsOpen}
 use Rattle.message_framing.proofs.EndLemmas.{none-seen, long-seen, ends-same}
 
@@ -78,20 +79,43 @@ module _ {M : Type 0} (IsHead : List ℕ → ℕ → Type 0) (Means : List ℕ �
         (sym (append_assoc text held more) ∙ in_three ((text ++ held) ++ more) front back m f is) in
         none f.body m (subst (λ t. Means t f.body m) (sym same.0) f.means)
 
+-- ---- spellings
+
+module _ {M : Type 0} (Means : List ℕ → List ℕ → M → Type 0) (Spells : List ℕ → M → Type 0) where
+  -- bytes without a head and a body that mean a message spell none
+  pub spelled-none : ((bytes : List ℕ) (m : M) → Spells bytes m → Framed Means bytes m)
+      → (bytes : List ℕ) → HasNoMessage (Framed Means) bytes → HasNoMessage Spells bytes
+  spelled-none spelled bytes none front back m is s = none front back m is (spelled front m s)
+
+  pub spelled-hopeless : ((bytes : List ℕ) (m : M) → Spells bytes m → Framed Means bytes m)
+      → (bytes : List ℕ) → IsHopeless (Framed Means) bytes → IsHopeless Spells bytes
+  spelled-hopeless spelled bytes none more = spelled-none spelled (bytes ++ more) (none more)
+
+  -- a head and a body that were taken spell the message
+  pub spelled-taken : ((text body : List ℕ) (m : M) → Means text body m → Spells (text ++ body) m)
+      → (old new : Reading) (ticks : ℕ) (m : M) → TakesFramed Means old new ticks m
+      → TakesMessage Spells old.bytes new.bytes m
+  spelled-taken spells old new ticks m took = record {
+    front = took.text ++ took.body;
+    spells = spells took.text took.body m took.means;
+    held = took.held;
+    whole = took.whole;
+  }
+
 -- ---- states
 
--- what was spent on a message that may still come
-pub stands-spent : {M : Type 0} (IsHead : List ℕ → ℕ → Type 0)
+-- the looks at a message that may still come
+pub stands-looks : {M : Type 0} (IsHead : List ℕ → ℕ → Type 0)
     (Means : List ℕ → List ℕ → M → Type 0) (filled : M → List ℕ → M) (state : State M)
     (held : List ℕ) → Stands IsHead Means filled state held → is_broken_state state ≡ false
-    → spent_of state ≤ 2 * min (length held) most_head
-stands-spent IsHead Means filled (states.Looking n phase) held so whole =
+    → looks_of state ≤ 2 * min (length held) most_head
+stands-looks IsHead Means filled (states.Looking n phase) held so whole =
     omega (arith, so.within, so.short)
-stands-spent IsHead Means filled (states.Ended n) held so whole =
+stands-looks IsHead Means filled (states.Ended n) held so whole =
     omega (arith, so.within, so.short)
-stands-spent IsHead Means filled (states.Read n begun) held so whole =
+stands-looks IsHead Means filled (states.Read n begun) held so whole =
     omega (arith, so.ended.within, so.ended.short)
-stands-spent IsHead Means filled (states.Broken n) held so whole = cc
+stands-looks IsHead Means filled (states.Broken n) held so whole = cc
 
 -- the message that was begun is the one that the state has
 pub begun-same : {M : Type 0} (a b : ℕ) (x y : Begun M) → states.Read a x ≡ states.Read b y → x ≡ y
@@ -117,7 +141,7 @@ gives IsHead Means filled held body left n begun m read come is rest filled_is =
       means = subst (λ it. Means (take n held) body it) (sym filled_is) (read.means body len);
       held = sym (take-append-drop n held) ∙ ap (λ l. take n held ++ l) back
           ∙ sym (append_assoc (take n held) body left);
-      spent = ap (λ k. 2 * k) (sym text);
+      looks = ap (λ k. 2 * k) (sym text);
       whole = refl;
     }
 

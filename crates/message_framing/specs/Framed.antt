@@ -7,7 +7,7 @@ use Rattle.message_framing.specs.declared.reader.Found.{Found}
 use Rattle.message_framing.specs.declared.reader.Found.TheVariants as founds
 use Rattle.message_framing.specs.declared.reader.State.{State}
 use Rattle.message_framing.specs.declared.reader.State.TheVariants as states
-use Rattle.message_framing.specs.Held.{Reading, waiting, broken, most_held}
+use Rattle.message_framing.specs.Held.{Reading, TakesMessage, waiting, broken, most_held}
 use Rattle.message_framing.specs.Looks.{IsOpen, IsEnded}
 
 -- The bytes are a head's text and a body, and together they mean a message.
@@ -17,6 +17,16 @@ pub record Framed {M : Type 0} (Means : List ℕ → List ℕ → M → Type 0) 
   pub body : List ℕ
   pub bytes_are : bytes ≡ text ++ body
   pub means : Means text body m
+
+module _ {M : Type 0} (Means : List ℕ → List ℕ → M → Type 0) where
+  -- the head begins this message: with each body of the length that it announces it means that
+  abbrev pub BeginsMessage : (M → List ℕ → M) → List ℕ → Begun M → Type 0
+  BeginsMessage filled text begun = (body : List ℕ) → length body ≡ begun.body_len
+      → Means text body (filled begun.message body)
+
+  -- no message begins with the text
+  abbrev pub BeginsNothing : List ℕ → Type 0
+  BeginsNothing text = (body : List ℕ) (m : M) → Means text body m → ⊥
 
 -- a fact of the message that was found
 abbrev pub IfFound : {M : Type 0} → Found M → (M → Type 0) → Type 0
@@ -34,13 +44,14 @@ UnlessFound founds.NoMemory P = P
 
 -- ---- the state of a reader
 
--- how often a byte of the head was looked at
-abbrev pub spent_of : {M : Type 0} → State M → ℕ
-spent_of (states.Looking n phase) = n
-spent_of (states.Ended n) = n
-spent_of (states.Read n begun) = 2 * n
-spent_of (states.Broken n) = n
+-- how often the reader looked at a byte of the head
+abbrev pub looks_of : {M : Type 0} → State M → ℕ
+looks_of (states.Looking n phase) = n
+looks_of (states.Ended n) = n
+looks_of (states.Read n begun) = 2 * n
+looks_of (states.Broken n) = n
 
+-- whether no message can come
 abbrev pub is_broken_state : {M : Type 0} → State M → Bool
 is_broken_state (states.Looking n phase) = false
 is_broken_state (states.Ended n) = false
@@ -55,7 +66,7 @@ reading_of state held may_feed = record {
     is_broken = is_broken_state state;
     may_feed = may_feed;
   };
-  spent = spent_of state;
+  looks = looks_of state;
 }
 
 -- A head ends with the first n of the bytes, and was read: it begins this message.
@@ -64,8 +75,7 @@ pub record IsRead {M : Type 0} (IsHead : List ℕ → ℕ → Type 0)
     (bytes : List ℕ) (n : ℕ) (begun : Begun M) : Type 0 where
   pub ended : IsEnded bytes n
   pub is_head : IsHead (take n bytes) begun.body_len
-  pub means : (body : List ℕ) → length body ≡ begun.body_len
-      → Means (take n bytes) body (filled begun.message body)
+  pub means : BeginsMessage Means filled (take n bytes) begun
 
 -- the state of a reader and the bytes that it holds
 abbrev pub Stands : {M : Type 0} → (List ℕ → ℕ → Type 0) → (List ℕ → List ℕ → M → Type 0)
@@ -96,43 +106,42 @@ pub record Gives {M : Type 0} (Means : List ℕ → List ℕ → M → Type 0) (
   pub body : List ℕ
   pub means : Means text body m
   pub held : old ≡ (text ++ body) ++ new
-  pub spent : spent_of state ≡ 2 * length text
+  pub looks : looks_of state ≡ 2 * length text
   pub whole : is_broken_state state ≡ false
 
--- A message was taken from the front of the bytes held. Each byte of its head was looked at twice,
--- with those looks that were spent on it before.
+-- A head and the body that it announces were taken from the front of the bytes held. Each byte of
+-- the head was looked at twice at most, in so many looks of this call and those before it.
 pub record TakesFramed {M : Type 0} (Means : List ℕ → List ℕ → M → Type 0) (old new : Reading)
-    (ticks : ℕ) (m : M)
-    : Type 0 where
+    (ticks : ℕ) (m : M) : Type 0 where
   pub text : List ℕ
   pub body : List ℕ
   pub means : Means text body m
   pub held : old.bytes.held ≡ (text ++ body) ++ new.bytes.held
   pub whole : new.bytes.is_broken ≡ old.bytes.is_broken
-  pub counted : ticks + old.spent ≤ 2 * length text
-  pub forgotten : new.spent ≡ 0
+  pub counted : ticks + old.looks ≤ 2 * length text
+  pub forgotten : new.looks ≡ 0
 
--- What is spent is at most twice the bytes that are held, and twice those of a head. A broken
--- reader holds none: there the bytes are those that it held when it broke, and nothing is spent
--- from then on.
-pub record SpendsWithin (old new : Reading) : Type 0 where
-  pub held : IsFalse new.bytes.is_broken → new.spent ≤ 2 * min (length new.bytes.held) most_head
+-- The looks are at most twice the bytes held, and twice those that a head may have. A broken reader
+-- holds none: there the bytes are those that it held when it broke, and it never looks again.
+pub record LooksWithin (old new : Reading) : Type 0 where
+  pub held : IsFalse new.bytes.is_broken → new.looks ≤ 2 * min (length new.bytes.held) most_head
   pub broke : IsFalse old.bytes.is_broken → IsTrue new.bytes.is_broken
-      → new.spent ≤ 2 * min (length old.bytes.held) most_head
-  pub stays : IsTrue old.bytes.is_broken → new.spent ≡ old.spent
+      → new.looks ≤ 2 * min (length old.bytes.held) most_head
+  pub stays : IsTrue old.bytes.is_broken → new.looks ≡ old.looks
 
--- What a reader answers, and what it holds then.
-pub record IsNext {M : Type 0} (Means : List ℕ → List ℕ → M → Type 0) (Waits : List ℕ → Type 0)
-    (old new : Reading) (found : Found M)
-    : Type 0 where
-  pub message : IfFound found (λ m. (ticks : ℕ) × TakesFramed Means old new ticks m)
+-- What a reader answers, and what it holds then: each field is a clause of `next_counted`, but for
+-- `forgotten`, which is part of its `counted`.
+pub record IsNext {M : Type 0} (Spells : List ℕ → M → Type 0) (Waits : List ℕ → Type 0)
+    (old new : Reading) (found : Found M) : Type 0 where
+  pub message : IfFound found (TakesMessage Spells old.bytes new.bytes)
+  pub forgotten : IfFound found (λ _. new.looks ≡ 0)
   pub more : found ≡ founds.More → new.bytes ≡ waiting old.bytes
-  pub none_whole : found ≡ founds.More → HasNoMessage (Framed Means) old.bytes.held
+  pub none_whole : found ≡ founds.More → HasNoMessage Spells old.bytes.held
   pub waits : found ≡ founds.More → Waits old.bytes.held
   pub broken : found ≡ founds.Broken → new.bytes ≡ broken
-  pub hopeless : found ≡ founds.Broken → IsTrue old.bytes.is_broken
-      ⊎ IsHopeless (Framed Means) old.bytes.held
+  pub hopeless : found ≡ founds.Broken
+      → IsTrue old.bytes.is_broken ⊎ IsHopeless Spells old.bytes.held
   pub stays : IsTrue old.bytes.is_broken → found ≡ founds.Broken
   pub no_memory : found ≡ founds.NoMemory → new.bytes ≡ old.bytes
   pub bound : length new.bytes.held ≤ most_held
-  pub spent : SpendsWithin old new
+  pub looks : LooksWithin old new

@@ -1,5 +1,6 @@
 -- The bytes that a reader holds, as its callers see it.
 use Rattle.std.specs.Prelude.{◌≡◌, ℕ, ◌+◌, Bool, true, false, List, [], ◌++◌, if◌then◌else◌}
+use Rattle.asp_base.specs.Limits.{most_piece}
 use Rattle.asp_messages.specs.Fields.{most_body}
 use Rattle.asp_messages.specs.Head.{most_head}
 
@@ -9,14 +10,10 @@ pub record Held : Type 0 where
   pub is_broken : Bool
   pub may_feed : Bool
 
--- A reader with what it spent on the message that it holds: how often it looked at a byte.
+-- A reader, and how often it looked at a byte of the message that it holds.
 pub record Reading : Type 0 where
   pub bytes : Held
-  pub spent : ℕ
-
--- the most bytes of a piece
-abbrev pub most_piece : ℕ
-most_piece = 16384
+  pub looks : ℕ
 
 -- the most bytes that a reader holds: a head, a body and a piece
 abbrev pub most_held : ℕ

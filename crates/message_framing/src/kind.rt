@@ -4,6 +4,7 @@ ghost use Rattle.asp_messages.specs.Fields.{most_body};
 ghost use Rattle.asp_messages.specs.Head.{most_head};
 ghost use Rattle.message_framing.specs.declared.head_end.Phase.{Phase};
 ghost use Rattle.message_framing.specs.declared.head_end.Phase.TheVariants.{Blank};
+ghost use Rattle.message_framing.specs.Framed.{Framed, BeginsMessage, BeginsNothing};
 ghost use Rattle.message_framing.specs.HeadEnd.{seen, EndsHead};
 
 use asp_base::Bytes;
@@ -23,17 +24,20 @@ pub trait MessageKind {
     /// A message.
     type Message: Drop;
 
-    // The text is a head that announces a body of so many bytes.
+    // The text is a head that announces a body of so many bytes: how long a reader waits for it.
     ghost IsHead: { List ℕ → ℕ → Type 0 };
 
-    // The text is a head, it announces this body, and both mean the message.
+    // The text is a head, it announces this body, and both mean the message: what `begin` reads.
     ghost Means: { List ℕ → List ℕ → Self.Message → Type 0 };
 
-    // The message with this body.
-    ghost filled: { Self.Message → List ℕ → Self.Message };
+    // The bytes spell the message: what the callers of a reader are told.
+    ghost Spells: { List ℕ → Self.Message → Type 0 };
 
-    // More bytes may make a message of these.
+    // More bytes may make a message of these: when a reader may ask for more.
     ghost Waits: { List ℕ → Type 0 };
+
+    // The message with this body: what `fill` makes.
+    ghost filled: { Self.Message → List ℕ → Self.Message };
 
     /// Reads a head that ends with the text, of at most 8,192 bytes: the message that it begins.
     /// `None` where no message begins with it. `room` is empty and has room for as many bytes as
@@ -48,14 +52,19 @@ pub trait MessageKind {
         requires room { length text.now ≤ vec_capacity room.old }
         requires short { length text.now ≤ most_head }
         ensures head { IfSome result (λ begun. IsHead text.now begun.body_len) }
-        ensures means { IfSome result (λ begun. (body : List ℕ) → length body ≡ begun.body_len
-            → Means text.now body (filled begun.message body)) }
-        ensures none { IsNone result → (body : List ℕ) (m : Self.Message) → Means text.now body m
-            → ⊥ };
+        ensures means { IfSome result (λ begun. BeginsMessage Means filled text.now begun) }
+        ensures none { IsNone result → BeginsNothing Means text.now };
 
     /// The message with its body. It takes no memory.
     fn fill(message: Self::Message, body: Bytes) -> Self::Message
         ensures { result ≡ filled message body };
+
+    // A head and the body that it announces spell what they mean.
+    ghost spells: { (text body : List ℕ) (m : Self.Message) → Means text body m
+        → Spells (text ++ body) m };
+
+    // Bytes that spell a message are a head and the body that it announces.
+    ghost spelled: { (bytes : List ℕ) (m : Self.Message) → Spells bytes m → Framed Means bytes m };
 
     // A head ends at its first empty line, and has at most 8,192 bytes.
     ghost ends: { (text body : List ℕ) (m : Self.Message) → Means text body m

@@ -10,4 +10,4 @@ mod reader;
 pub use fields::{Standing, body_length, find_field, lock_cookie, number_needed, number_or};
 pub use head_end::MOST_HEAD;
 pub use kind::{Begun, MessageKind};
-pub use reader::{Found, MOST_HELD, MOST_PIECE, MessageReader};
+pub use reader::{Found, MOST_HELD, MessageReader};

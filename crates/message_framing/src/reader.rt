@@ -1,31 +1,27 @@
 //! A reader of messages of any kind, which looks at each byte of a head once and reads it once.
 ghost use Rattle.std.specs.Prelude.{◌⊎◌, ◌≡◌, ◌<◌, ◌≤◌, ◌+◌, ◌-◌, ◌*◌, ◌↔◌, [], length, IsTrue, IsFalse, IsOk, OnOk, OnErr, min};
+ghost use Rattle.asp_base.specs.Limits.{most_piece};
 ghost use Rattle.asp_messages.specs.Fields.{most_body};
 ghost use Rattle.asp_messages.specs.Head.{most_head};
 ghost use Rattle.asp_messages.specs.Stream.{HasNoMessage, IsHopeless};
-ghost use Rattle.message_framing.specs.Framed.{Framed, IfFound, UnlessFound, spent_of, is_broken_state, Stands, IsLooked, IsPast, Gives, SpendsWithin, TakesFramed, IsNext};
-ghost use Rattle.message_framing.specs.Held.{Reading, empty_reader, fed, waiting, broken, most_held, most_piece};
+ghost use Rattle.message_framing.specs.Framed.{Framed, IfFound, UnlessFound, looks_of, is_broken_state, Stands, IsLooked, IsPast, Gives, LooksWithin, TakesFramed, IsNext};
+ghost use Rattle.message_framing.specs.Held.{Reading, empty_reader, fed, waiting, broken, most_held, TakesMessage};
 
 use crate::head_end::{Look, MOST_HEAD, Phase, look_on};
 use crate::kind::{Begun, MessageKind};
-use asp_base::{Held, NoMemory, Steps};
+use asp_base::{Held, MOST_PIECE, NoMemory, Steps};
 use httparse::spans::{EMPTY_HEADER_SPAN, HeaderSpan};
 use std::alloc::Global;
+use std::fmt;
 use std::marker::{Brand, Model};
 use std::mem::replace;
 use std::sync::ledger::{Blank, Ledger};
 
-/// The most bytes of a piece that is fed.
-pub const MOST_PIECE: usize = 16_384;
-
 /// The most bytes that a reader holds: a head, a body and a piece.
 pub const MOST_HELD: usize = 4_218_880;
 
-/// The least length of a body that gets its room at once, in bytes.
-const LARGE: u64 = 16_384;
-
 /// What a reader finds at the front of the bytes that it holds.
-#[derive(Drop)]
+#[derive(Debug, Drop)]
 pub enum Found<M> {
     /// A message, which was taken.
     Message(M),
@@ -46,7 +42,7 @@ pub enum State<M> {
     Ended(u64),
     /// The head has so many bytes, and begins this message.
     Read(u64, Begun<M>),
-    /// No message can come. A byte was looked at so often.
+    /// No message can come. It looked at a byte so often.
     Broken(u64),
 }
 
@@ -85,7 +81,7 @@ fn look<K: MessageKind, L: Ledger>(held: &Held, state: &mut State<K::Message>, s
     ensures looked { IsLooked state.new held.now }
     ensures broken { is_broken_state state.new ≡ is_broken_state state.old }
     ensures stays { IsTrue (is_broken_state state.old) → state.new ≡ state.old }
-    ensures steps { steps.new + spent_of state.old ≡ steps.old + spent_of state.new }
+    ensures steps { steps.new + looks_of state.old ≡ steps.old + looks_of state.new }
     ensures rises { steps.old ≤ steps.new }
 {
     if let State::Looking(from, phase) = *state {
@@ -116,10 +112,10 @@ fn read<K: MessageKind, L: Ledger>(
     ensures stays { IsTrue (is_broken_state state.old)
         → IsOk result × (state.new ≡ state.old) × (held.new ≡ held.old) }
     ensures within { IsFalse (is_broken_state state.old)
-        → spent_of state.new ≤ 2 * min (length held.old) most_head }
+        → looks_of state.new ≤ 2 * min (length held.old) most_head }
     ensures err { OnErr result (state.new ≡ state.old) }
     ensures err_held { OnErr result (held.new ≡ held.old) }
-    ensures steps { steps.new + spent_of state.old ≡ steps.old + spent_of state.new }
+    ensures steps { steps.new + looks_of state.old ≡ steps.old + looks_of state.new }
     ensures rises { steps.old ≤ steps.new }
 {
     let State::Ended(len) = *state else {
@@ -131,8 +127,10 @@ fn read<K: MessageKind, L: Ledger>(
         Some(begun) => {
             let wanted = begun.body_len;
             let there = held.len() - len;
-            if wanted >= LARGE && there < wanted {
-                held.make_room(wanted - there + MOST_PIECE as u64);
+            let piece = MOST_PIECE as u64;
+            // A body as long as a piece, or longer, gets its room at once.
+            if wanted >= piece && there < wanted {
+                held.make_room(wanted - there + piece);
             }
             *state = State::Read(len, begun);
         }
@@ -156,7 +154,7 @@ fn give<K: MessageKind>(
     ensures stands { Stands K.IsHead K.Means K.filled state.new held.new }
     ensures message { IfFound result (λ m. Gives K.Means state.old held.old held.new m
         × (state.new ≡ State.Looking 0 Phase.Blank)) }
-    ensures same { UnlessFound result (spent_of state.new ≡ spent_of state.old) }
+    ensures same { UnlessFound result (looks_of state.new ≡ looks_of state.old) }
     ensures more { result ≡ Found.More → (state.new ≡ state.old) × (held.new ≡ held.old) }
     ensures room { result ≡ Found.More → length held.old < most_head + most_body }
     ensures none_whole { result ≡ Found.More → HasNoMessage (Framed K.Means) held.old }
@@ -165,8 +163,8 @@ fn give<K: MessageKind>(
     ensures hopeless { result ≡ Found.Broken → IsTrue (is_broken_state state.old)
         ⊎ IsHopeless (Framed K.Means) held.old }
     ensures stays { IsTrue (is_broken_state state.old)
-        → (result ≡ Found.Broken) × (spent_of state.new ≡ spent_of state.old) }
-    ensures less { spent_of state.new ≤ spent_of state.old }
+        → (result ≡ Found.Broken) × (looks_of state.new ≡ looks_of state.old) }
+    ensures less { looks_of state.new ≤ looks_of state.old }
     ensures no_memory { result ≡ Found.NoMemory → (state.new ≡ state.old) × (held.new ≡ held.old) }
 {
     let (len, wanted) = match state {
@@ -174,9 +172,9 @@ fn give<K: MessageKind>(
             if *len < MOST_HEAD as u64 {
                 return Found::More;
             }
-            let spent = *len;
+            let looks = *len;
             *held = Held::new(alloc);
-            *state = State::Broken(spent);
+            *state = State::Broken(looks);
             return Found::Broken;
         }
         State::Ended(_) => return Found::More,
@@ -195,10 +193,17 @@ fn give<K: MessageKind>(
     }
 }
 
+// It shows no bytes: whoever reads them counts them.
+impl<K: MessageKind> fmt::Debug for MessageReader<K> {
+    fn fmt<W: fmt::Write>(&self, f: &mut fmt::Formatter<W>) -> fmt::Result {
+        f.write_str("MessageReader")
+    }
+}
+
 impl<K: MessageKind> MessageReader<K> {
     /// A reader that was fed nothing. It takes no memory.
     pub fn new(alloc: Global) -> MessageReader<K>
-        ensures { result ≡ record { bytes = empty_reader; spent = 0 } }
+        ensures { result ≡ record { bytes = empty_reader; looks = 0 } }
     {
         MessageReader {
             alloc,
@@ -210,14 +215,15 @@ impl<K: MessageKind> MessageReader<K> {
         }
     }
 
-    /// Adds a piece of at most 16,384 bytes. A broken reader keeps nothing. The only error is want
-    /// of memory, and nothing has changed then.
+    /// Adds a piece of at most 16,384 bytes to those held; a broken reader keeps nothing. The
+    /// caller has heard `More` or `Broken` since the last piece. After `NoMemory` nothing has
+    /// changed.
     pub fn feed(&mut self, piece: &[u8]) -> Result<(), NoMemory>
         requires piece { length piece.now ≤ most_piece }
         requires may_feed { IsTrue self.old.bytes.may_feed }
         ensures ok { OnOk result (self.new.bytes ≡ fed self.old.bytes piece.now) }
         ensures err { OnErr result (self.new ≡ self.old) }
-        ensures spent { self.new.spent ≡ self.old.spent }
+        ensures looks { self.new.looks ≡ self.old.looks }
         ensures bound { length self.new.bytes.held ≤ most_held }
     {
         if !matches!(self.state, State::Broken(_)) {
@@ -227,9 +233,10 @@ impl<K: MessageKind> MessageReader<K> {
         Ok(())
     }
 
-    /// How often a byte of the message that is held was looked at.
+    /// How often the reader looked at a byte of the message that it holds: at most twice the bytes
+    /// held, and twice 8,192.
     pub fn spent(&self) -> u64
-        ensures { result ≡ self.now.spent }
+        ensures { result ≡ self.now.looks }
     {
         match &self.state {
             State::Looking(len, _) | State::Ended(len) | State::Broken(len) => *len,
@@ -237,29 +244,29 @@ impl<K: MessageKind> MessageReader<K> {
         }
     }
 
-    /// The first message of the bytes held, which are taken. It counts each look at a byte.
+    /// The first message of the bytes held, which are taken. `steps` counts each look at a byte.
     pub fn next_counted<L: Ledger>(&mut self, steps: &mut Steps<L>) -> Found<K::Message>
-        ensures message { IfFound result (TakesFramed K.Means self.old self.new
+        ensures message { IfFound result (TakesMessage K.Spells self.old.bytes self.new.bytes) }
+        ensures counted { IfFound result (TakesFramed K.Means self.old self.new
             (steps.new - steps.old)) }
         ensures rises { steps.old ≤ steps.new }
-        ensures growth { UnlessFound result (steps.new + self.old.spent ≡ steps.old
-            + self.new.spent) }
+        ensures growth { UnlessFound result (steps.new + self.old.looks ≡ steps.old
+            + self.new.looks) }
 
         // No message is whole, and there is room for more bytes.
         ensures more { result ≡ Found.More → self.new.bytes ≡ waiting self.old.bytes }
-        ensures none_whole { result ≡ Found.More
-            → HasNoMessage (Framed K.Means) self.old.bytes.held }
+        ensures none_whole { result ≡ Found.More → HasNoMessage K.Spells self.old.bytes.held }
         ensures waits { result ≡ Found.More → K.Waits self.old.bytes.held }
 
         // No bytes can follow that make a message, and the reader stays broken.
         ensures broken { result ≡ Found.Broken → self.new.bytes ≡ broken }
         ensures hopeless { result ≡ Found.Broken
-            → IsTrue self.old.bytes.is_broken ⊎ IsHopeless (Framed K.Means) self.old.bytes.held }
+            → IsTrue self.old.bytes.is_broken ⊎ IsHopeless K.Spells self.old.bytes.held }
         ensures stays { IsTrue self.old.bytes.is_broken → result ≡ Found.Broken }
 
         ensures no_memory { result ≡ Found.NoMemory → self.new.bytes ≡ self.old.bytes }
         ensures bound { length self.new.bytes.held ≤ most_held }
-        ensures spent { SpendsWithin self.old self.new }
+        ensures looks { LooksWithin self.old self.new }
     {
         look::<K, L>(&self.held, &mut self.state, steps);
         let Ok(()) = read::<K, L>(
@@ -279,11 +286,12 @@ impl<K: MessageKind> MessageReader<K> {
         found
     }
 
+    // A ledger is picked for a call, so that the counter is made in a call of its own.
     fn next_of<L: Ledger>(&mut self, blank: Blank) -> Found<K::Message>
         requires name { blank.name ≡ L.name }
         requires parts { blank.parts ≡ L.parts }
         requires has_parts { 0 < L.parts }
-        ensures { IsNext K.Means K.Waits self.old self.new result }
+        ensures { IsNext K.Spells K.Waits self.old self.new result }
     {
         let mut steps = Steps::<L>::new(blank);
         self.next_counted(&mut steps)
@@ -292,12 +300,13 @@ impl<K: MessageKind> MessageReader<K> {
     /// The first message of the bytes held, which are taken: `next_counted` with a counter of its
     /// own.
     pub fn next(&mut self) -> Found<K::Message>
-        ensures { IsNext K.Means K.Waits self.old self.new result }
+        ensures { IsNext K.Spells K.Waits self.old self.new result }
     {
         self.next_of::<Brand>(Blank::new(1))
     }
 
-    /// Whether the reader is not broken and holds no byte.
+    /// Whether all bytes fed were whole messages that were taken: the reader is not broken and
+    /// holds no byte.
     pub fn end(&self) -> bool
         ensures { IsTrue result ↔ (IsFalse self.now.bytes.is_broken × (self.now.bytes.held ≡ [])) }
     {

@@ -1,46 +1,48 @@
 use Rattle.std.proofs.Common.{◌≡◌, ◌⊎◌, inl, inr, sym, ap, subst, ◌∙◌, arith, length, Bool, true, false, IsTrue}
 use Rattle.asp_messages.specs.Stream.{HasNoMessage, IsHopeless}
 use Rattle.message_framing.specs.Held.{Reading}
-use Rattle.message_framing.specs.Framed.{Framed, SpendsWithin, spent_of, is_broken_state}
-use Rattle.message_framing.proofs.ReaderLemmas.{stands-spent, if-found, is-false, either-way}
+use Rattle.message_framing.specs.Framed.{Framed, LooksWithin, looks_of, is_broken_state}
+use Rattle.message_framing.proofs.ReaderLemmas.{stands-looks, if-found, is-false, either-way, spelled-none, spelled-hopeless, spelled-taken}
 use Rattle.message_framing.proofs.reader.MessageReader.next_counted.Goals as goal
 
 pub returns-then-matches-clause-none_whole : goal.returns-then-matches-clause-none_whole
 returns-then-matches-clause-none_whole g c = λ is.
     let kind = g.K.MessageKind in
-    let held = c.self.inside.held in
+    let laws = g.met.K.MessageKind in
     let whole : is_broken_state c.read.new.state ≡ false =
     is-false (is_broken_state c.read.new.state)
     (λ broken. let clash = sym is ∙ (c.give-found.ensures.stays broken).0 in cc) in
     let bytes : c.read.new.held ≡ c.args.self.now.bytes.held =
     c.in-Ok.ensures.same whole ∙ ap (λ (r : Reading). r.bytes.held) c.self.view_is in
-    subst (HasNoMessage (Framed kind.Means)) bytes (c.give-found.ensures.none_whole is)
+    subst (HasNoMessage kind.Spells) bytes
+    (spelled-none kind.Means kind.Spells laws.spelled c.read.new.held
+    (c.give-found.ensures.none_whole is))
 
 pub returns-then-matches-clause-hopeless : goal.returns-then-matches-clause-hopeless
 returns-then-matches-clause-hopeless g c = λ is.
     let kind = g.K.MessageKind in
-    let held = c.self.inside.held in
-    let answer : Type 0 = (IsTrue c.args.self.now.bytes.is_broken)
-    ⊎ IsHopeless (Framed kind.Means) c.args.self.now.bytes.held in
-    let first : held ≡ c.args.self.now.bytes.held =
-    ap (λ (r : Reading). r.bytes.held) c.self.view_is in
+    let laws = g.met.K.MessageKind in
+    let bytes = c.args.self.now.bytes.held in
+    let answer : Type 0 = (IsTrue c.args.self.now.bytes.is_broken) ⊎ IsHopeless kind.Spells bytes in
+    let seen : c.self.inside.held ≡ bytes = ap (λ (r : Reading). r.bytes.held) c.self.view_is in
+    let spelled = spelled-hopeless kind.Means kind.Spells laws.spelled bytes in
     either-way (is_broken_state c.read.new.state) answer
     (λ broken. elim (c.in-Ok.ensures.hopeless broken) as (λ _. answer) [
       | inl was ↦ inl (ap (λ (r : Reading). r.bytes.is_broken) (sym c.self.view_is)
           ∙ sym c.look.ensures.broken ∙ was)
-      | inr none ↦ inr (subst (IsHopeless (Framed kind.Means)) first none)
+      | inr none ↦ inr (spelled (subst (IsHopeless (Framed kind.Means)) seen none))
     ])
     (λ whole. elim (c.give-found.ensures.hopeless is) as (λ _. answer) [
       | inl was ↦ (let clash : ◌≡◌ {A = Bool} false true = sym whole ∙ was in cc)
-      | inr none ↦ inr (subst (IsHopeless (Framed kind.Means)) (c.in-Ok.ensures.same whole ∙ first)
-          none)
+      | inr none ↦ inr (spelled (subst (IsHopeless (Framed kind.Means))
+          (c.in-Ok.ensures.same whole ∙ seen) none))
     ])
 
-pub returns-then-matches-clause-spent : goal.returns-then-matches-clause-spent
-returns-then-matches-clause-spent g c =
+pub returns-then-matches-clause-looks : goal.returns-then-matches-clause-looks
+returns-then-matches-clause-looks g c =
     let kind = g.K.MessageKind in
     let old = c.self.inside.state in
-    let spends : SpendsWithin c.args.self.now
+    let within : LooksWithin c.args.self.now
     (record {
       bytes = record {
         held = c.give-found.new.held;
@@ -48,10 +50,10 @@ returns-then-matches-clause-spent g c =
         may_feed =
             true;
       };
-      spent = spent_of c.give-found.new.state;
+      looks = looks_of c.give-found.new.state;
     }) =
     record {
-      held = λ whole. stands-spent kind.IsHead kind.Means kind.filled c.give-found.new.state
+      held = λ whole. stands-looks kind.IsHead kind.Means kind.filled c.give-found.new.state
           c.give-found.new.held c.give-found.ensures.stands whole;
       broke = λ whole _.
           let whole_then : is_broken_state c.look.new.state ≡ false = c.look.ensures.broken
@@ -74,19 +76,19 @@ returns-then-matches-clause-spent g c =
           let read_same = c.read.ensures.stays broken_looked in
           let broken_read : is_broken_state c.read.new.state ≡ true = ap is_broken_state read_same.1
           ∙ broken_looked in
-          (c.give-found.ensures.stays broken_read).1 ∙ ap spent_of read_same.1
-          ∙ ap spent_of look_same ∙ ap (λ (r : Reading). r.spent) c.self.view_is;
+          (c.give-found.ensures.stays broken_read).1 ∙ ap looks_of read_same.1
+          ∙ ap looks_of look_same ∙ ap (λ (r : Reading). r.looks) c.self.view_is;
     } in
-    spends
+    within
 
-pub returns-else-matches-clause-message : goal.returns-else-matches-clause-message
-returns-else-matches-clause-message g c =
+pub returns-else-matches-clause-counted : goal.returns-else-matches-clause-counted
+returns-else-matches-clause-counted g c =
     let kind = g.K.MessageKind in
     let held = c.self.inside.held in
-    let first : held ≡ c.args.self.now.bytes.held =
+    let seen : held ≡ c.args.self.now.bytes.held =
     ap (λ (r : Reading). r.bytes.held) c.self.view_is in
-    let spent_first : spent_of c.self.inside.state ≡ c.args.self.now.spent =
-    ap (λ (r : Reading). r.spent) c.self.view_is in
+    let looks_seen : looks_of c.self.inside.state ≡ c.args.self.now.looks =
+    ap (λ (r : Reading). r.looks) c.self.view_is in
     if-found c.give-found.result _ _ c.give-found.ensures.message (λ m found.
     let gives = found.0 in
     let looked_whole : is_broken_state c.look.new.state ≡ false =
@@ -97,16 +99,23 @@ returns-else-matches-clause-message g c =
       text = gives.text;
       body = gives.body;
       means = gives.means;
-      held = sym (c.in-Ok.ensures.same gives.whole ∙ first) ∙ gives.held;
+      held = sym (c.in-Ok.ensures.same gives.whole ∙ seen) ∙ gives.held;
       whole = ap is_broken_state found.1 ∙ sym looked_whole ∙ c.look.ensures.broken
           ∙ ap (λ (r : Reading). r.bytes.is_broken) c.self.view_is;
       counted = omega (
         arith,
-        gives.spent,
+        gives.looks,
         c.look.ensures.steps,
         c.read.ensures.steps,
         c.look.ensures.rises,
         c.read.ensures.rises,
       );
-      forgotten = ap spent_of found.1;
+      forgotten = ap looks_of found.1;
     })
+
+pub returns-else-matches-clause-message : goal.returns-else-matches-clause-message
+returns-else-matches-clause-message g c =
+    let kind = g.K.MessageKind in
+    let laws = g.met.K.MessageKind in
+    if-found c.give-found.result _ _ (returns-else-matches-clause-counted g c)
+    (λ m took. spelled-taken kind.Means kind.Spells laws.spells _ _ _ m took)

@@ -3,8 +3,9 @@ use Rattle.message_framing.proofs.reader.MessageReader.next_of.Goals as goal
 
 pub returns : goal.returns
 returns g c = record {
-  message = if-found c.next_counted.result _ _ c.next_counted.ensures.message
-      (λ m takes. (_, takes));
+  message = c.next_counted.ensures.message;
+  forgotten = if-found c.next_counted.result _ _ c.next_counted.ensures.counted
+      (λ m took. took.forgotten);
   more = c.next_counted.ensures.more;
   none_whole = c.next_counted.ensures.none_whole;
   waits = c.next_counted.ensures.waits;
@@ -13,5 +14,5 @@ returns g c = record {
   stays = c.next_counted.ensures.stays;
   no_memory = c.next_counted.ensures.no_memory;
   bound = c.next_counted.ensures.bound;
-  spent = c.next_counted.ensures.spent;
+  looks = c.next_counted.ensures.looks;
 }
