@@ -18,15 +18,13 @@ use Rattle.asp_messages.proofs.FramingLemmas.{body_length-le}
 use Rattle.asp_messages.specs.Fields.{Field, Occurrence, absent, one, twice, once, request_fields, body_length, most_body, timeout_field, extra_flags_field, lock_cookie_field}
 use Rattle.asp_messages.specs.Head.{IsRequestHead, most_head}
 use Rattle.asp_messages.specs.RequestSpelling.{message_of, ask_of, get_ask, put_ask, delete_ask, release_ask, fit_of, is_key, SpellsRequest}
-use Rattle.asp_messages.specs.Stream.{HasNoMessage, IsHopeless, IsWaiting}
+use Rattle.asp_messages.specs.Stream.{IsWaiting}
 use Rattle.message_framing.specs.declared.head_end.Phase.{Phase}
 use Rattle.message_framing.specs.declared.head_end.Phase.TheVariants.{Blank, Line, Feed}
 use Rattle.message_framing.specs.HeadEnd.{seen, EndsHead}
-use Rattle.message_framing.specs.Framed.{Framed, TakesFramed}
-use Rattle.message_framing.specs.Held.{Reading}
+use Rattle.message_framing.specs.Framed.{Framed}
 use Rattle.message_framing.proofs.EndLemmas.{none-seen}
 use Rattle.message_framing.proofs.SectionLemmas.{then, in-line, in-line-one, end-line, token-line, blank-line, blank-lines, section-ends}
-use Rattle.request_reader.specs.Next.{TakesCounted}
 use Rattle.request_reader.specs.Requests.{IsAnnounced, IsParsed, MeansRequest, filled, filled_ask}
 
 -- ---- where a head ends
@@ -124,43 +122,32 @@ waits_for_body text back len is few = inr (record {
 
 -- ---- messages
 
-pub spells-framed : (bytes : List ℕ) (m : Message) → SpellsRequest bytes m
-    → Framed MeansRequest bytes m
-spells-framed bytes m s = record {
-  text = s.framed.front;
-  body = s.body;
-  bytes_are = s.framed.bytes_are;
-  means = record {
-    head = s.head;
-    is_head = s.framed.is_head;
-    announced =
-        s.framed.announced;
-    message_is = s.message_is;
-  };
-}
-
-pub means-spells : (text body : List ℕ) (m : Message) → MeansRequest text body m
+pub spells : (text body : List ℕ) (m : Message) → MeansRequest text body m
     → SpellsRequest (text ++ body) m
-means-spells text body m means = record {
+spells text body m means = record {
   head = means.head;
   body = body;
   framed = record {
     front = text;
     bytes_are = refl;
     is_head = means.is_head;
-    announced =
-        means.announced;
+    announced = means.announced;
   };
   message_is = means.message_is;
 }
 
-pub none-none : (bytes : List ℕ) → HasNoMessage (Framed MeansRequest) bytes
-    → HasNoMessage SpellsRequest bytes
-none-none bytes none front back m is s = none front back m is (spells-framed front m s)
-
-pub hopeless-hopeless : (bytes : List ℕ) → IsHopeless (Framed MeansRequest) bytes
-    → IsHopeless SpellsRequest bytes
-hopeless-hopeless bytes none more = none-none (bytes ++ more) (none more)
+pub spelled : (bytes : List ℕ) (m : Message) → SpellsRequest bytes m → Framed MeansRequest bytes m
+spelled bytes m s = record {
+  text = s.framed.front;
+  body = s.body;
+  bytes_are = s.framed.bytes_are;
+  means = record {
+    head = s.head;
+    is_head = s.framed.is_head;
+    announced = s.framed.announced;
+    message_is = s.message_is;
+  };
+}
 
 -- ---- the body is filled in
 
@@ -258,20 +245,3 @@ begins text headers spans len m is says body same_len =
           ∙ ap (λ target. message_of head.method target fields body) at.path
           ∙ ap (λ fs. message_of head.method head.target fs body) at.fields;
     }
-
--- ---- what was taken
-
-pub takes : (old new : Reading) (ticks : ℕ) (m : Message) → TakesFramed MeansRequest old new ticks m
-    → TakesCounted old new ticks m
-unfolding means-spells
-takes old new ticks m t = record {
-  taken = record {
-    front = t.text ++ t.body;
-    spells = means-spells t.text t.body m t.means;
-    held =
-        t.held;
-    whole = t.whole;
-  };
-  counted = t.counted;
-  forgotten = t.forgotten;
-}

@@ -1,29 +1,36 @@
-//! Requests as a kind of messages.
+//! Requests as a kind of messages, and their reader.
 ghost use Rattle.std.specs.Prelude.{◌≡◌, ◌≤◌, ℕ, List, length, IfSome, IsNone};
-ghost use Rattle.asp_messages.specs.declared.request.Message.{Message as AnyMessage};
 ghost use Rattle.asp_messages.specs.Fields.{request_fields};
 ghost use Rattle.asp_messages.specs.Head.{IsRequestHead, most_head};
+ghost use Rattle.asp_messages.specs.RequestSpelling.{SpellsRequest};
 ghost use Rattle.asp_messages.specs.Stream.{IsWaiting};
+ghost use Rattle.message_framing.specs.Framed.{BeginsNothing};
 ghost use Rattle.request_reader.specs.Requests.{IsAnnounced, IsParsed, MeansRequest, filled, filled_ask};
-ghost use Rattle.request_reader.specs.RequestLaws.{ends, fits, short, waits_for_head, waits_for_body};
+ghost use Rattle.request_reader.specs.RequestLaws.{spells, spelled, ends, fits, short, waits_for_head, waits_for_body};
 
 use crate::request::message;
 use asp_base::Bytes;
 use asp_messages::{Ask, Message, Request};
 use httparse::Status;
 use httparse::spans::{HeaderSpan, RequestSpans, parse_request};
-use message_framing::{Begun, MessageKind, body_length};
+use message_framing::{Begun, Found, MessageKind, MessageReader, body_length};
 
 /// Requests.
 pub struct Requests;
+
+/// A reader of requests from the pieces of a stream, which never holds more than 4,218,880 bytes.
+/// What its clauses call `K.Spells` is `SpellsRequest`: exactly the requests of the wire.
+pub type RequestReader = MessageReader<Requests>;
+
+/// What a reader answers when it is asked for the next message.
+pub type Next = Found<Message>;
 
 /// Where a head that ends with the text has its parts, and the length of the body that it
 /// announces, in bytes. `None` where no message begins with the text.
 fn parse(text: &[u8], headers: &mut [HeaderSpan; 64]) -> Option<(RequestSpans, u64)>
     requires { length text.now ≤ most_head }
     ensures head { IfSome result (λ r. IsParsed text.now headers.new r.0 r.1) }
-    ensures none { IsNone result → (body : List ℕ) (m : AnyMessage) → MeansRequest text.now body m
-        → ⊥ }
+    ensures none { IsNone result → BeginsNothing MeansRequest text.now }
 {
     let Ok(Status::Complete(spans)) = parse_request(text, headers) else {
         return None;
@@ -42,9 +49,15 @@ impl MessageKind for Requests {
 
     ghost Means = { MeansRequest };
 
-    ghost filled = { filled };
+    ghost Spells = { SpellsRequest };
 
     ghost Waits = { IsWaiting IsRequestHead request_fields };
+
+    ghost filled = { filled };
+
+    ghost spells = { spells };
+
+    ghost spelled = { spelled };
 
     ghost ends = { ends };
 

@@ -3,7 +3,6 @@
 #![tactic(auto)]
 
 mod kind;
-mod reader;
 mod request;
 
-pub use reader::{Next, RequestReader};
+pub use kind::{Next, RequestReader, Requests};
