@@ -8,9 +8,9 @@ use Rattle.asp_messages.specs.declared.reply.Reply.{Reply}
 use Rattle.asp_messages.specs.declared.reply.Reply.TheVariants as replies
 use Rattle.asp_messages.specs.Fields.{response_fields, body_length}
 use Rattle.asp_messages.specs.Head.{IsReplyHead, most_head}
-use Rattle.asp_messages.specs.ReplySpelling.{Answer, reply, strange, answer_of}
-use Rattle.reply_reader.specs.declared.parts.ReplyMessage.{ReplyMessage}
-use Rattle.reply_reader.specs.declared.parts.ReplyMessage.TheVariants as messages
+use Rattle.asp_messages.specs.ReplySpelling.{Answer, reply, strange, answer_of, SpellsReply}
+use Rattle.reply_reader.specs.declared.kind.ReplyMessage.{ReplyMessage}
+use Rattle.reply_reader.specs.declared.kind.ReplyMessage.TheVariants as messages
 
 -- The text is a head that announces a body of so many bytes.
 pub record IsAnnounced (text : List ℕ) (len : ℕ) : Type 0 where
@@ -32,6 +32,10 @@ pub record IsParsed (text : List ℕ) (headers : List HeaderSpan) (spans : Respo
 abbrev pub answer_told : ReplyMessage → Answer
 answer_told (messages.Reply r) = reply r
 answer_told (messages.Strange status) = strange status
+
+-- the bytes spell the answer that the message is
+abbrev pub SpellsMessage : List ℕ → ReplyMessage → Type 0
+SpellsMessage bytes m = SpellsReply bytes (answer_told m)
 
 -- The text is a response head that announces this body, and they say the answer.
 pub record MeansReply (text body : List ℕ) (m : ReplyMessage) : Type 0 where

@@ -20,13 +20,13 @@ use Rattle.message_framing.specs.declared.head_end.Phase.{Phase}
 use Rattle.message_framing.specs.declared.head_end.Phase.TheVariants.{Blank, Line, Feed}
 use Rattle.message_framing.specs.HeadEnd.{seen, EndsHead}
 use Rattle.message_framing.specs.Framed.{Framed, TakesFramed}
-use Rattle.message_framing.specs.Held.{Reading}
+use Rattle.message_framing.specs.Held.{Held, Reading, TakesMessage}
 use Rattle.message_framing.proofs.EndLemmas.{none-seen}
 use Rattle.message_framing.proofs.SectionLemmas.{then, in-line, in-line-one, end-line, blank-lines, section-ends}
-use Rattle.reply_reader.specs.declared.parts.ReplyMessage.{ReplyMessage}
-use Rattle.reply_reader.specs.declared.parts.ReplyMessage.TheVariants as messages
+use Rattle.reply_reader.specs.declared.kind.ReplyMessage.{ReplyMessage}
+use Rattle.reply_reader.specs.declared.kind.ReplyMessage.TheVariants as messages
 use Rattle.reply_reader.specs.ReplyNext.{TakesCounted}
-use Rattle.reply_reader.specs.Replies.{IsAnnounced, IsParsed, MeansReply, answer_told, filled, filled_reply}
+use Rattle.reply_reader.specs.Replies.{IsAnnounced, IsParsed, MeansReply, SpellsMessage, answer_told, filled, filled_reply}
 
 -- ---- where a head ends
 
@@ -129,46 +129,60 @@ waits_for_body text back len is few = inr (record {
 
 -- ---- messages
 
-pub means-spells : (text body : List ℕ) (m : ReplyMessage) → MeansReply text body m
-    → SpellsReply (text ++ body) (answer_told m)
-means-spells text body m means = record {
+pub spells : (text body : List ℕ) (m : ReplyMessage) → MeansReply text body m
+    → SpellsMessage (text ++ body) m
+spells text body m means = record {
   head = means.head;
   body = body;
   framed = record {
     front = text;
     bytes_are = refl;
     is_head = means.is_head;
-    announced =
-        means.announced;
+    announced = means.announced;
   };
   answer_is = means.answer_is;
 }
+
+pub spelled : (bytes : List ℕ) (m : ReplyMessage) → SpellsMessage bytes m
+    → Framed MeansReply bytes m
+spelled bytes m s = record {
+  text = s.framed.front;
+  body = s.body;
+  bytes_are = s.framed.bytes_are;
+  means = record {
+    head = s.head;
+    is_head = s.framed.is_head;
+    announced = s.framed.announced;
+    answer_is = s.answer_is;
+  };
+}
+
+-- ---- each message is an answer
 
 -- each answer is that of a message
 answered : (answer : Answer) → (m : ReplyMessage) × (answer_told m ≡ answer)
 answered (reply r) = (messages.Reply r, refl)
 answered (strange status) = (messages.Strange status, refl)
 
-pub none-none : (bytes : List ℕ) → HasNoMessage (Framed MeansReply) bytes
+pub none-none : (bytes : List ℕ) → HasNoMessage SpellsMessage bytes
     → HasNoMessage SpellsReply bytes
 none-none bytes none front back answer is s =
     let m = answered answer in
-    none front back m.0 is (record {
-      text = s.framed.front;
-      body = s.body;
-      bytes_are = s.framed.bytes_are;
-      means = record {
-        head = s.head;
-        is_head = s.framed.is_head;
-        announced =
-            s.framed.announced;
-        answer_is = m.1 ∙ s.answer_is;
-      };
-    })
+    none front back m.0 is (subst (SpellsReply front) (sym m.1) s)
 
-pub hopeless-hopeless : (bytes : List ℕ) → IsHopeless (Framed MeansReply) bytes
+pub hopeless-hopeless : (bytes : List ℕ) → IsHopeless SpellsMessage bytes
     → IsHopeless SpellsReply bytes
 hopeless-hopeless bytes none more = none-none (bytes ++ more) (none more)
+
+-- a message that was taken is an answer that was taken
+pub told : (old new : Held) (m : ReplyMessage) → TakesMessage SpellsMessage old new m
+    → TakesMessage SpellsReply old new (answer_told m)
+told old new m took = record {
+  front = took.front;
+  spells = took.spells;
+  held = took.held;
+  whole = took.whole;
+}
 
 -- ---- the body is filled in
 
@@ -288,13 +302,12 @@ begins text headers spans len m is says body same_len =
 
 pub takes : (old new : Reading) (ticks : ℕ) (m : ReplyMessage)
     → TakesFramed MeansReply old new ticks m → TakesCounted old new ticks (answer_told m)
-unfolding means-spells
+unfolding spells
 takes old new ticks m t = record {
   taken = record {
     front = t.text ++ t.body;
-    spells = means-spells t.text t.body m t.means;
-    held =
-        t.held;
+    spells = spells t.text t.body m t.means;
+    held = t.held;
     whole = t.whole;
   };
   counted = t.counted;

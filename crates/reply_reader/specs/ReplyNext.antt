@@ -21,9 +21,9 @@ UnlessMessage nexts.More P = P
 UnlessMessage nexts.Broken P = P
 UnlessMessage nexts.NoMemory P = P
 
--- A message was taken from the front of the bytes held, and each byte of its head was looked at
--- twice, with those looks that were spent on it before.
+-- A message was taken from the front of the bytes held. Each byte of its head was looked at twice
+-- at most, in so many looks of this call and those before it.
 pub record TakesCounted (old new : Reading) (ticks : ℕ) (answer : Answer) : Type 0 where
   pub taken : TakesMessage SpellsReply old.bytes new.bytes answer
-  pub counted : ticks + old.spent ≤ 2 * length taken.spells.framed.front
-  pub forgotten : new.spent ≡ 0
+  pub counted : ticks + old.looks ≤ 2 * length taken.spells.framed.front
+  pub forgotten : new.looks ≡ 0

@@ -3,17 +3,25 @@ ghost use Rattle.std.specs.Prelude.{◌≡◌, ◌≤◌, ℕ, List, length, IfS
 ghost use Rattle.asp_messages.specs.Fields.{response_fields};
 ghost use Rattle.asp_messages.specs.Head.{IsReplyHead, most_head};
 ghost use Rattle.asp_messages.specs.Stream.{IsWaiting};
-ghost use Rattle.reply_reader.specs.declared.parts.ReplyMessage.{ReplyMessage as AnyMessage};
-ghost use Rattle.reply_reader.specs.Replies.{IsAnnounced, IsParsed, MeansReply, filled, filled_reply};
-ghost use Rattle.reply_reader.specs.ReplyLaws.{ends, fits, short, waits_for_head, waits_for_body};
+ghost use Rattle.message_framing.specs.Framed.{BeginsNothing};
+ghost use Rattle.reply_reader.specs.Replies.{IsAnnounced, IsParsed, MeansReply, SpellsMessage, filled, filled_reply};
+ghost use Rattle.reply_reader.specs.ReplyLaws.{spells, spelled, ends, fits, short, waits_for_head, waits_for_body};
 
-use crate::parts::ReplyMessage;
 use crate::reply::reply;
 use asp_base::Bytes;
 use asp_messages::Reply;
 use httparse::Status;
 use httparse::spans::{HeaderSpan, ResponseSpans, parse_response};
 use message_framing::{Begun, MessageKind, body_length};
+
+/// A whole message of a stream of replies.
+#[derive(Drop)]
+pub enum ReplyMessage {
+    /// A reply.
+    Reply(Reply),
+    /// A message of this status that is no reply.
+    Strange(u16),
+}
 
 /// Replies.
 pub struct Replies;
@@ -23,8 +31,7 @@ pub struct Replies;
 fn parse(text: &[u8], headers: &mut [HeaderSpan; 64]) -> Option<(ResponseSpans, u64)>
     requires { length text.now ≤ most_head }
     ensures head { IfSome result (λ r. IsParsed text.now headers.new r.0 r.1) }
-    ensures none { IsNone result → (body : List ℕ) (m : AnyMessage) → MeansReply text.now body m
-        → ⊥ }
+    ensures none { IsNone result → BeginsNothing MeansReply text.now }
 {
     let Ok(Status::Complete(spans)) = parse_response(text, headers) else {
         return None;
@@ -43,9 +50,15 @@ impl MessageKind for Replies {
 
     ghost Means = { MeansReply };
 
-    ghost filled = { filled };
+    ghost Spells = { SpellsMessage };
 
     ghost Waits = { IsWaiting IsReplyHead response_fields };
+
+    ghost filled = { filled };
+
+    ghost spells = { spells };
+
+    ghost spelled = { spelled };
 
     ghost ends = { ends };
 

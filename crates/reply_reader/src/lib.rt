@@ -3,7 +3,6 @@
 #![tactic(auto)]
 
 mod kind;
-mod parts;
 mod reader;
 mod reply;
 

@@ -1,20 +1,19 @@
 //! A reader of replies.
 ghost use Rattle.std.specs.Prelude.{◌⊎◌, ◌≡◌, ◌≤◌, ◌+◌, ◌-◌, ◌↔◌, [], length, IsTrue, IsFalse, OnOk, OnErr};
+ghost use Rattle.asp_base.specs.Limits.{most_piece};
 ghost use Rattle.asp_messages.specs.Fields.{response_fields};
 ghost use Rattle.asp_messages.specs.Head.{IsReplyHead};
 ghost use Rattle.asp_messages.specs.ReplySpelling.{SpellsReply};
 ghost use Rattle.asp_messages.specs.Stream.{HasNoMessage, IsHopeless, IsWaiting};
-ghost use Rattle.message_framing.specs.Framed.{SpendsWithin};
-ghost use Rattle.message_framing.specs.Held.{empty_reader, fed, waiting, broken, most_held, most_piece, TakesMessage};
+ghost use Rattle.message_framing.specs.Framed.{LooksWithin};
+ghost use Rattle.message_framing.specs.Held.{empty_reader, fed, waiting, broken, most_held, TakesMessage};
 ghost use Rattle.reply_reader.specs.ReplyNext.{IfMessage, UnlessMessage, TakesCounted};
 
-use crate::kind::Replies;
-use crate::parts::ReplyMessage;
+use crate::kind::{Replies, ReplyMessage};
 use asp_base::{NoMemory, Steps};
 use asp_messages::Reply;
 use message_framing::{Found, MessageReader};
 use std::alloc::Global;
-use std::fmt;
 use std::marker::Model;
 use std::sync::ledger::Ledger;
 
@@ -37,7 +36,7 @@ pub enum ReplyNext {
 }
 
 /// A reader of replies from the pieces of a stream. It never holds more than 4,218,880 bytes.
-#[derive(Drop)]
+#[derive(Debug, Drop)]
 pub struct ReplyReader {
     reader: MessageReader<Replies>,
 }
@@ -50,16 +49,10 @@ impl Model for ReplyReader {
     ghost view = { λ r. r.reader };
 }
 
-impl fmt::Debug for ReplyReader {
-    fn fmt<W: fmt::Write>(&self, f: &mut fmt::Formatter<W>) -> fmt::Result {
-        f.write_str("ReplyReader")
-    }
-}
-
 impl ReplyReader {
     /// A reader that was fed nothing. It takes no memory.
     pub fn new(alloc: Global) -> ReplyReader
-        ensures { result ≡ record { bytes = empty_reader; spent = 0 } }
+        ensures { result ≡ record { bytes = empty_reader; looks = 0 } }
     {
         ReplyReader {
             reader: MessageReader::new(alloc),
@@ -74,16 +67,16 @@ impl ReplyReader {
         requires may_feed { IsTrue self.old.bytes.may_feed }
         ensures ok { OnOk result (self.new.bytes ≡ fed self.old.bytes piece.now) }
         ensures err { OnErr result (self.new ≡ self.old) }
-        ensures spent { self.new.spent ≡ self.old.spent }
+        ensures looks { self.new.looks ≡ self.old.looks }
         ensures bound { length self.new.bytes.held ≤ most_held }
     {
         self.reader.feed(piece)
     }
 
-    /// How often a byte of the message that is held was looked at: at most twice the bytes held,
-    /// and twice 8,192.
+    /// How often the reader looked at a byte of the message that it holds: at most twice the bytes
+    /// held, and twice 8,192.
     pub fn spent(&self) -> u64
-        ensures { result ≡ self.now.spent }
+        ensures { result ≡ self.now.looks }
     {
         self.reader.spent()
     }
@@ -94,7 +87,7 @@ impl ReplyReader {
             (steps.new - steps.old)) }
         ensures rises { steps.old ≤ steps.new }
         ensures growth { UnlessMessage result
-            (steps.new + self.old.spent ≡ steps.old + self.new.spent) }
+            (steps.new + self.old.looks ≡ steps.old + self.new.looks) }
 
         // No message is whole, and there is room for more bytes.
         ensures more { result ≡ ReplyNext.More → self.new.bytes ≡ waiting self.old.bytes }
@@ -111,7 +104,7 @@ impl ReplyReader {
 
         ensures no_memory { result ≡ ReplyNext.NoMemory → self.new.bytes ≡ self.old.bytes }
         ensures bound { length self.new.bytes.held ≤ most_held }
-        ensures spent { SpendsWithin self.old self.new }
+        ensures looks { LooksWithin self.old self.new }
     {
         match self.reader.next_counted(steps) {
             Found::Message(ReplyMessage::Reply(reply)) => ReplyNext::Reply(reply),
@@ -127,7 +120,7 @@ impl ReplyReader {
     pub fn next(&mut self) -> ReplyNext
         ensures message { IfMessage result (TakesMessage SpellsReply self.old.bytes
             self.new.bytes) }
-        ensures forgotten { IfMessage result (λ _. self.new.spent ≡ 0) }
+        ensures forgotten { IfMessage result (λ _. self.new.looks ≡ 0) }
 
         // No message is whole, and there is room for more bytes.
         ensures more { result ≡ ReplyNext.More → self.new.bytes ≡ waiting self.old.bytes }
@@ -144,7 +137,7 @@ impl ReplyReader {
 
         ensures no_memory { result ≡ ReplyNext.NoMemory → self.new.bytes ≡ self.old.bytes }
         ensures bound { length self.new.bytes.held ≤ most_held }
-        ensures spent { SpendsWithin self.old self.new }
+        ensures looks { LooksWithin self.old self.new }
     {
         match self.reader.next() {
             Found::Message(ReplyMessage::Reply(reply)) => ReplyNext::Reply(reply),

@@ -49,13 +49,13 @@ returns-clause-message g c =
           c.self.view_is
           (rw w.in-Message-Reply.field-0-is at
           (takes c.self.inside.reader new ticks w.in-Message-Reply.field-0
-          (rw w.in-Message-Reply.is at c.next_counted.ensures.message))))
+          (rw w.in-Message-Reply.is at c.next_counted.ensures.counted))))
       | in-Message-Strange w ↦ rw w.result-is
           (subst (λ (r : Reading). TakesCounted r new ticks (strange w.in-Message-Strange.status))
           c.self.view_is
           (rw w.in-Message-Strange.field-0-is at
           (takes c.self.inside.reader new ticks w.in-Message-Strange.field-0
-          (rw w.in-Message-Strange.is at c.next_counted.ensures.message))))
+          (rw w.in-Message-Strange.is at c.next_counted.ensures.counted))))
       | in-More w ↦ rw w.result-is tt
       | in-Broken w ↦ rw w.result-is tt
       | in-NoMemory w ↦ rw w.result-is tt
