@@ -1,14 +1,15 @@
 #!/usr/bin/env python3
 """Measures `asp_state serve` over loopback, beside redis-server, memcached, nginx and a bare echo, in one run.
 
-usage: bench/serve.py [--growth] [--sessions] [--calls] [PROGRAM]
+usage: bench/serve.py [--growth] [--sessions] [--expiry] [--calls] [PROGRAM]
 
 PROGRAM is the built program; without it ./asp_state builds it, and its own is taken. Without a flag it runs each server with 1, 8
 and 64 connections, by turns, three rounds of a second each, the server on one half of the processors and the load on the other,
 and prints the medians: requests a second, p50 and p99 in microseconds. --growth runs 1, 2, 4 and 8 workers with as many
-connections; --sessions writes 1,000,000 sessions of 100 bytes, and prints the memory and the time of a request before and after;
---calls counts the system calls of 20,000 requests under strace. It needs cc, and redis-server, memcached, nginx and strace where
-they are asked for. Outside the gate; nothing of it is promised.
+connections; --sessions writes sessions with contents of 100 bytes to 64 KiB, and prints the memory of each, and the time of a request
+before and after 1,000,000 of them; --expiry writes 100,000 sessions of one minute, lets them expire, and prints the memory before and
+after short visits, and after as many more sessions; --calls counts the system calls of 20,000 requests under strace. It needs cc, and
+redis-server, memcached, nginx and strace where they are asked for. Outside the gate; nothing of it is promised.
 """
 import os
 import re
@@ -26,6 +27,9 @@ ROUNDS = 3
 SECONDS = 1
 BODY = 1024
 LIMIT = 100_000
+DONE = b"HTTP/1.1 200 OK\r\nContent-Length: 0\r\n\r\n"
+# The contents of the sessions whose memory is measured, in bytes, and how many sessions.
+CONTENTS = [(100, 1_000_000), (1_024, 300_000), (16_384, 20_000), (65_536, 5_000)]
 
 
 def processors():
@@ -166,29 +170,70 @@ def memory_of(process):
     return 0
 
 
-def sessions(bench):
-    port, server = bench.serve(8)
-    before = bench.measure(port, "asp-get", 1)
-    empty = memory_of(server)
-    body = b"s" * 100
-    done = len(b"HTTP/1.1 200 OK\r\nContent-Length: 0\r\n\r\n")
-    begun = time.monotonic()
+def write_sessions(port, name, count, size, minutes=20):
+    """Writes sessions with keys of 30 bytes over one connection, many at a time before their replies are read."""
+    body = b"s" * size
+    batch = max(1, min(500, 2**20 // size))
     with socket.create_connection(("127.0.0.1", port)) as peer:
-        for first in range(0, 1_000_000, 500):
-            lines = (b"PUT /k%028d HTTP/1.1\r\nContent-Length: 100\r\n\r\n%s" % (k, body) for k in range(first, first + 500))
-            peer.sendall(b"".join(lines))
-            left = 500 * done
+        for first in range(0, count, batch):
+            keys = range(first, min(count, first + batch))
+            head = b"PUT /%s%028d HTTP/1.1\r\nTimeout: %d\r\nContent-Length: %d\r\n\r\n%s"
+            peer.sendall(b"".join(head % (name, k, minutes, size, body) for k in keys))
+            left = len(keys) * len(DONE)
             while left > 0:
-                left -= len(peer.recv(min(left, 1 << 16)))
-    took = time.monotonic() - begun
-    full = memory_of(server)
-    after = bench.measure(port, "asp-get", 1)
+                piece = peer.recv(min(left, 1 << 16))
+                if not piece:
+                    raise SystemExit("the server ended a connection")
+                left -= len(piece)
+
+
+def sessions(bench):
+    for size, count in CONTENTS:
+        port, server = bench.serve(8)
+        before = bench.measure(port, "asp-get", 1)
+        empty = memory_of(server)
+        begun = time.monotonic()
+        write_sessions(port, b"k", count, size)
+        took = time.monotonic() - begun
+        full = memory_of(server)
+        after = bench.measure(port, "asp-get", 1)
+        server.terminate()
+        server.wait()
+        each = (full - empty) / count
+        print(f"{count:,} sessions, keys of 30 bytes and contents of {size:,}: written in {took:.1f} s")
+        print(f"  memory {empty / 2**20:.0f} MiB before, {full / 2**20:.0f} MiB after: {each:.0f} bytes a session")
+        print(f"  a read before: p50 {before[1]:.1f} us, p99 {before[2]:.1f} us; after: p50 {after[1]:.1f} us, p99 {after[2]:.1f} us")
+
+
+def visit(port):
+    """A short connection, as the timer of `packaging` makes one a minute: when it ends, expired sessions are removed."""
+    with socket.create_connection(("127.0.0.1", port)) as peer:
+        peer.sendall(b"GET /- HTTP/1.1\r\n\r\n")
+        peer.recv(4096)
+
+
+def expiry(bench):
+    count, size = 100_000, 1_000
+    port, server = bench.serve(8)
+    empty = memory_of(server)
+
+    def say(when):
+        print(f"{when}: {(memory_of(server) - empty) / 2**20:.0f} MiB more than at the beginning", flush=True)
+
+    write_sessions(port, b"a", count, size, 1)
+    say(f"{count:,} sessions with contents of {size:,} bytes and a timeout of a minute")
+    time.sleep(62)
+    say("62 s later, when all have expired")
+    for visits in (1, 4, 10, 15):
+        for _ in range(visits):
+            visit(port)
+        # (The worker removes once the connection has ended.)
+        time.sleep(0.5)
+        say(f"after {visits} visits more")
+    write_sessions(port, b"b", count, size, 1)
+    say(f"after {count:,} other sessions")
     server.terminate()
     server.wait()
-    each = (full - empty) / 1_000_000
-    print(f"1,000,000 sessions, keys of 30 bytes and bodies of 100: written in {took:.1f} s (pipelined, 500 at a time)")
-    print(f"memory {empty / 2**20:.0f} MiB before, {full / 2**20:.0f} MiB after: {each:.0f} bytes a session")
-    print(f"a read before: p50 {before[1]:.1f} us, p99 {before[2]:.1f} us; after: p50 {after[1]:.1f} us, p99 {after[2]:.1f} us")
 
 
 def calls(bench):
@@ -229,6 +274,8 @@ def main():
             growth(bench)
         if "--sessions" in flags:
             sessions(bench)
+        if "--expiry" in flags:
+            expiry(bench)
         if "--calls" in flags:
             calls(bench)
 
