@@ -55,7 +55,7 @@ unbegun_first false is_begun is = subst (λ b. IsUnbegun b false [] []) (sym is)
 unbegun_first true is_begun is = subst (λ b. IsUnbegun b true [] []) (sym is) (refl, refl, refl)
 
 pub Went-start : {K : Type 0} (G : keepers.Ghosts K) (r : Responder K) → PipeFits r.pipe
-    → r.is_begun ≡ not r.pipe.journal → r.stream ≡ record { reader = empty_reader; is_due = false }
+    → r.is_begun ≡ not r.pipe.journal → r.stream ≡ record { reader = empty_reader }
     → StandsFor nothing 0 [] (G.told r.desk.keeper) (G.count r.desk.keeper)
     → r.desk.cookies ≡ record { next = r.pipe.first; last = most_cookie }
     → r.clock ≡ record { next = r.pipe.start; step = r.pipe.step } → Went G r r [] []

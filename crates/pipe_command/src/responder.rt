@@ -123,7 +123,6 @@ impl<K: Keeper> Responder<K> {
 
     /// Answers the message that was taken last, and gives the reply.
     fn reply(&mut self, message: Message)
-        requires due { IsTrue self.old.stream.is_due }
         requires message { IfFit message RequestFits }
         ensures answered { LeavesAnswered ⟦<K as Keeper>⟧ outputs.Replies
             (λ due. given self.new ≡ due) message self.old self.new }
@@ -183,7 +182,6 @@ impl<K: Keeper> Responder<K> {
 
     /// Answers the message that was taken last, and gives what is due for it.
     fn answer(&mut self, message: Message) -> Result<(), NoMemory>
-        requires due { IsTrue self.old.stream.is_due }
         requires message { IfFit message RequestFits }
         ensures answered { OnOk result (LeavesAnswered ⟦<K as Keeper>⟧
             (output_of self.old.pipe.journal) (λ due. given self.new ≡ due) message

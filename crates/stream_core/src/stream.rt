@@ -1,5 +1,6 @@
 //! A stream of requests, and the heads of the replies to them.
-ghost use Rattle.std.specs.Prelude.{◌⊎◌, ◌≡◌, ◌≤◌, ◌↔◌, length, IsTrue, IsFalse, IsNone, IfSome, OnOk, OnErr, true, false};
+ghost use Rattle.std.specs.Prelude.{◌⊎◌, ◌≡◌, ◌≤◌, ◌↔◌, length, IsTrue, IsNone, IfSome, OnOk, OnErr};
+ghost use Rattle.asp_base.specs.Limits.{most_piece};
 ghost use Rattle.asp_messages.specs.declared.reply.Reply.TheVariants.{Bad};
 ghost use Rattle.asp_messages.specs.Fields.{request_fields};
 ghost use Rattle.asp_messages.specs.Head.{IsRequestHead};
@@ -7,9 +8,10 @@ ghost use Rattle.asp_messages.specs.Ranges.{ReplyFits};
 ghost use Rattle.asp_messages.specs.ReplyText.{head_text};
 ghost use Rattle.asp_messages.specs.RequestSpelling.{SpellsRequest};
 ghost use Rattle.asp_messages.specs.Stream.{HasNoMessage, IsHopeless, IsWaiting};
-ghost use Rattle.message_framing.specs.Held.{empty_reader, fed, waiting, broken, most_held, most_piece, TakesMessage};
-ghost use Rattle.request_reader.specs.Next.{IfNext};
-ghost use Rattle.stream_core.specs.Connection.{IsFinished, is_message};
+ghost use Rattle.message_framing.specs.declared.reader.Found.TheVariants as nexts;
+ghost use Rattle.message_framing.specs.Framed.{IfFound};
+ghost use Rattle.message_framing.specs.Held.{empty_reader, fed, waiting, broken, TakesMessage};
+ghost use Rattle.stream_core.specs.Connection.{IsFinished};
 
 use asp_base::NoMemory;
 use asp_messages::{Reply, ReplyHead, reply_head};
@@ -17,11 +19,10 @@ use request_reader::{Next, RequestReader};
 use std::alloc::Global;
 use std::marker::Model;
 
-/// A stream of requests, and whether the message that was taken last is due an answer.
+/// A stream of requests: their reader, and the heads of the replies to them.
 #[derive(Debug, Drop)]
 pub struct Stream {
     reader: RequestReader,
-    is_due: bool,
 }
 
 impl Model for Stream {
@@ -29,17 +30,16 @@ impl Model for Stream {
 
     ghost Value = { Connection };
 
-    ghost view = { λ s. record { reader = s.reader.bytes; is_due = s.is_due } };
+    ghost view = { λ s. record { reader = s.reader.bytes } };
 }
 
 impl Stream {
     /// A stream that was fed nothing. It takes no memory.
     pub fn new(alloc: Global) -> Stream
-        ensures { result ≡ record { reader = empty_reader; is_due = false } }
+        ensures { result ≡ record { reader = empty_reader } }
     {
         Stream {
             reader: RequestReader::new(alloc),
-            is_due: false,
         }
     }
 
@@ -48,10 +48,7 @@ impl Stream {
     pub fn take(&mut self, piece: &[u8]) -> Result<(), NoMemory>
         requires piece { length piece.now ≤ most_piece }
         requires may_feed { IsTrue self.old.reader.may_feed }
-        ensures ok { OnOk result (self.new ≡ record self.old {
-          reader =
-              fed self.old.reader piece.now;
-        }) }
+        ensures ok { OnOk result (self.new ≡ record { reader = fed self.old.reader piece.now }) }
         ensures err { OnErr result (self.new ≡ self.old) }
     {
         self.reader.feed(piece)
@@ -59,37 +56,32 @@ impl Stream {
 
     /// The first message of the bytes held, which is then due an answer.
     pub fn next(&mut self) -> Next
-        ensures message { IfNext result (TakesMessage SpellsRequest self.old.reader
+        ensures message { IfFound result (TakesMessage SpellsRequest self.old.reader
             self.new.reader) }
-        ensures is_due { self.new.is_due ≡ is_message result }
 
         // No message is whole, and there is room for more bytes.
-        ensures more { result ≡ Next.More → self.new.reader ≡ waiting self.old.reader }
-        ensures none_whole { result ≡ Next.More → HasNoMessage SpellsRequest self.old.reader.held }
-        ensures waits { result ≡ Next.More → IsWaiting IsRequestHead request_fields
+        ensures more { result ≡ nexts.More → self.new.reader ≡ waiting self.old.reader }
+        ensures none_whole { result ≡ nexts.More → HasNoMessage SpellsRequest self.old.reader.held }
+        ensures waits { result ≡ nexts.More → IsWaiting IsRequestHead request_fields
             self.old.reader.held }
 
         // No bytes can follow that make a message, and the stream stays broken.
-        ensures broken { result ≡ Next.Broken → self.new.reader ≡ broken }
-        ensures hopeless { result ≡ Next.Broken
+        ensures broken { result ≡ nexts.Broken → self.new.reader ≡ broken }
+        ensures hopeless { result ≡ nexts.Broken
             → IsTrue self.old.reader.is_broken ⊎ IsHopeless SpellsRequest self.old.reader.held }
-        ensures stays { IsTrue self.old.reader.is_broken → result ≡ Next.Broken }
+        ensures stays { IsTrue self.old.reader.is_broken → result ≡ nexts.Broken }
 
-        ensures no_memory { result ≡ Next.NoMemory → self.new.reader ≡ self.old.reader }
+        ensures no_memory { result ≡ nexts.NoMemory → self.new.reader ≡ self.old.reader }
     {
-        let next = self.reader.next();
-        self.is_due = is_message(&next);
-        next
+        self.reader.next()
     }
 
-    /// The head of the reply to the message that is due an answer. It takes no memory.
+    /// The head of the reply to a message that was taken. It takes no memory.
     pub fn answer(&mut self, reply: &Reply) -> ReplyHead
-        requires due { IsTrue self.old.is_due }
         requires fits { ReplyFits reply.now }
         ensures head { result ≡ head_text reply.now }
-        ensures answered { self.new ≡ record self.old { is_due = false } }
+        ensures same { self.new ≡ self.old }
     {
-        self.is_due = false;
         reply_head(reply)
     }
 
@@ -106,10 +98,4 @@ impl Stream {
             Some(reply_head(&Reply::Bad))
         }
     }
-}
-
-fn is_message(next: &Next) -> bool
-    ensures { result ≡ is_message next.now }
-{
-    matches!(next, Next::Message(_))
 }

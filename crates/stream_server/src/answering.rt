@@ -77,7 +77,6 @@ fn answer<R: Wait + HostTime, K: Keeper + Drop, T: Sink, C: Clock, G: Gate>(
     gate: &G,
 ) -> Result<(), Failed>
     requires pass { IsPassOf store.now pass.old }
-    requires due { IsTrue stream.old.is_due }
     requires message { IfFit message RequestFits }
     ensures pass { IsPassOf store.now pass.new }
     ensures caller { caller_of pass.new ≡ caller_of pass.old }
