@@ -8,9 +8,9 @@ use Rattle.asp_messages.specs.declared.request.Message.TheVariants.{Fit, Unfit}
 use Rattle.asp_messages.specs.Fields.{request_fields}
 use Rattle.asp_messages.specs.RequestSpelling.{message_of}
 use Rattle.asp_messages.specs.RequestText.{content_of}
+use Rattle.message_framing.specs.Framed.{TakesFramed}
 use Rattle.message_framing.specs.Held.{Reading}
-use Rattle.request_reader.specs.Next.{TakesCounted}
-use Rattle.request_reader.specs.Requests.{filled, filled_ask}
+use Rattle.request_reader.specs.Requests.{MeansRequest, filled, filled_ask}
 use Rattle.request_reader.specs.RequestLaws.{message-filled}
 use Rattle.wire_tests.specs.Counts.{content, LooksTwice}
 
@@ -27,15 +27,16 @@ filled-content (Fit request) body = ask-content request.ask body
 filled-content Unfit body = omega arith
 
 -- the content of a message is no longer than the body behind its head
-pub looks-twice : (old new : Reading) (ticks : ℕ) (m : Message) → TakesCounted old new ticks m
-    → LooksTwice old new ticks (length (content m))
-looks-twice old new ticks m t =
-    let s = t.taken.spells in
-    let short : length (content m) ≤ length s.body =
-    subst (λ k. length (content k) ≤ length s.body)
-    (message-filled s.head.method s.head.target (request_fields s.head) s.body
-    ∙ sym s.message_is)
-    (filled-content (message_of s.head.method s.head.target (request_fields s.head) []) s.body) in
-    let held = ap length t.taken.held ∙ length-append t.taken.front new.bytes.held in
-    let front = ap length s.framed.bytes_are ∙ length-append s.framed.front s.body in
-    omega (arith, short, held, front, t.counted, t.forgotten)
+pub looks-twice : (old new : Reading) (ticks : ℕ) (m : Message)
+    → TakesFramed MeansRequest old new ticks m → LooksTwice old new ticks (length (content m))
+looks-twice old new ticks m took =
+    let said = took.means in
+    let short : length (content m) ≤ length took.body =
+    subst (λ k. length (content k) ≤ length took.body)
+    (message-filled said.head.method said.head.target (request_fields said.head) took.body
+    ∙ sym said.message_is)
+    (filled-content (message_of said.head.method said.head.target (request_fields said.head) [])
+    took.body) in
+    let held = ap length took.held ∙ length-append (took.text ++ took.body) new.bytes.held in
+    let front = length-append took.text took.body in
+    omega (arith, short, held, front, took.counted, took.forgotten)

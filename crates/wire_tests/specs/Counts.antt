@@ -10,9 +10,9 @@ abbrev pub content : Message → List ℕ
 content (Fit request) = content_of request.ask
 content Unfit = []
 
--- what was looked at, with what was spent before, is at most twice the bytes that were taken but
--- for those of content, with what is spent on those that are held
+-- the looks, with those before, are at most twice the bytes that were taken but for those of
+-- content, with the looks at those that are held
 abbrev pub LooksTwice : Reading → Reading → ℕ → ℕ → Type 0
 LooksTwice old new ticks content =
-    ticks + old.spent + 2 * (content + length new.bytes.held)
-    ≤ new.spent + 2 * length old.bytes.held
+    ticks + old.looks + 2 * (content + length new.bytes.held)
+    ≤ new.looks + 2 * length old.bytes.held

@@ -27,7 +27,7 @@ fn count_messages(reader: &mut RequestReader, messages: &mut usize) -> Result<bo
     Ok(false)
 }
 
-/// The messages of a text that is fed byte by byte, and the most that the reader had spent.
+/// The messages of a text that is fed byte by byte, and the most that the reader told of its looks.
 fn course_of(alloc: Global, text: &[u8]) -> Result<(usize, u64), NoMemory> {
     let mut reader = RequestReader::new(alloc);
     let mut messages = 0;
@@ -98,8 +98,8 @@ fn hear<L: Ledger>(
     given: &mut Given,
 ) -> Result<(), NoMemory>
     ensures may_feed { OnOk result (IsTrue reader.new.bytes.may_feed) }
-    ensures looks { OnOk result (steps.new + reader.old.spent + 2 * given.new.content
-        + 2 * length reader.new.bytes.held ≤ steps.old + reader.new.spent + 2 * given.old.content
+    ensures looks { OnOk result (steps.new + reader.old.looks + 2 * given.new.content
+        + 2 * length reader.new.bytes.held ≤ steps.old + reader.new.looks + 2 * given.old.content
         + 2 * length reader.old.bytes.held) }
 {
     let Some(len) = take(reader, steps)? else {

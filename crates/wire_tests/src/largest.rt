@@ -1,7 +1,7 @@
 //! The limits of a reader, and the largest bodies, written by one end and read back by the other.
-use asp_base::{Bytes, NoMemory};
+use asp_base::{Bytes, MOST_PIECE, NoMemory};
 use asp_messages::{Ask, Message, Reply, Request, named, reply_body, reply_head, write_request};
-use message_framing::{MOST_HEAD, MOST_HELD, MOST_PIECE};
+use message_framing::{MOST_HEAD, MOST_HELD};
 use reply_reader::{ReplyNext, ReplyReader};
 use request_reader::{Next, RequestReader};
 use std::alloc::Global;

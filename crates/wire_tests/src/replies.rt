@@ -2,10 +2,9 @@
 ghost use Rattle.std.specs.Prelude.{IfOk, IsTrue, OnOk};
 ghost use Rattle.message_framing.specs.Held.{Held, Reading};
 
-use asp_base::NoMemory;
+use asp_base::{MOST_PIECE, NoMemory};
 use asp_messages::spell_dated;
 use itoa::Buffer;
-use message_framing::MOST_PIECE;
 use reply_reader::{ReplyNext, ReplyReader};
 use std::alloc::Global;
 

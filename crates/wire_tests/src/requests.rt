@@ -2,9 +2,8 @@
 ghost use Rattle.std.specs.Prelude.{IfOk, IsTrue, OnOk};
 ghost use Rattle.message_framing.specs.Held.{Held, Reading};
 
-use asp_base::NoMemory;
+use asp_base::{MOST_PIECE, NoMemory};
 use asp_messages::{Message, spell_ask};
-use message_framing::MOST_PIECE;
 use request_reader::{Next, RequestReader};
 use std::alloc::Global;
 

@@ -5,5 +5,5 @@ abbrev pub invariant-loop-at : goal.invariant-loop-at
 invariant-loop-at g l = record {
   may_feed : IsTrue l.reader.bytes.may_feed;
   looks : l.steps + 2 * l.given.content + 2 * length l.reader.bytes.held
-      ≤ l.reader.spent + 2 * l.at;
+      ≤ l.reader.looks + 2 * l.at;
 }

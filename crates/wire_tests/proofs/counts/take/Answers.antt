@@ -9,4 +9,4 @@ returns-in-Message-clause-looks g c =
     let new = c.next_counted.new.self in
     let ticks = c.next_counted.new.steps - c.args.steps.now in
     subst (LooksTwice old new ticks) (sym c.content_len.ensures)
-    (looks-twice old new ticks c.in-Message.message c.in-Message.ensures.message)
+    (looks-twice old new ticks c.in-Message.message c.in-Message.ensures.counted)
