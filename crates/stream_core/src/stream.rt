@@ -54,7 +54,7 @@ impl Stream {
         self.reader.feed(piece)
     }
 
-    /// The first message of the bytes held, which is then due an answer.
+    /// The first message of the bytes held, which is taken and is now to be answered.
     pub fn next(&mut self) -> Next
         ensures message { IfFound result (TakesMessage SpellsRequest self.old.reader
             self.new.reader) }
