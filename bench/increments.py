@@ -165,6 +165,8 @@ async def load(run, clients, seconds):
     """Loads what listens for so long, and prints what was seen. True where there was no fault."""
     maker = Client(run)
     await begin(run, maker)
+    # (An idle connection may be closed meanwhile.)
+    maker.drop()
     run.counts.clear()
     run.times.clear()
     begun = time.monotonic()
