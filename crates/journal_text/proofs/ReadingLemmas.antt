@@ -8,12 +8,12 @@ use Rattle.std.proofs.lemmas.List.Elements.{All-append, All-cons, All-nil}
 use Rattle.session_machine.specs.declared.entry.Entry.{Entry}
 use Rattle.session_machine.specs.declared.profile.Profile.{Profile}
 use Rattle.plain_words.specs.Words.{HasNo, SplitsAt}
-use Rattle.journal_text.specs.declared.reader.JournalNext.{JournalNext}
-use Rattle.journal_text.specs.declared.reader.JournalNext.TheVariants as nexts
-use Rattle.journal_text.specs.JournalText.{head_words, entry_words, line, head_line, entry_line, journal_text, PlaceFits, EntryFits}
-use Rattle.journal_text.specs.Next.{taken_with, IfNotAJournal}
-use Rattle.journal_text.specs.Reading.{IsTooLong, IsNoLine, Taken, taken_text, StopsAt, Reading, fed, broken, HasRead}
-use Rattle.journal_text.specs.Spelled.{IsEntry}
+use Rattle.journal_text.specs.declared.reading.journal_reader.JournalNext.{JournalNext}
+use Rattle.journal_text.specs.declared.reading.journal_reader.JournalNext.TheVariants as nexts
+use Rattle.journal_text.specs.WritingText.{head_words, entry_words, line, head_line, entry_line, journal_text, PlaceFits, EntryFits}
+use Rattle.journal_text.specs.ReadingAnswers.{taken_with, IfNotAJournal}
+use Rattle.journal_text.specs.ReadingText.{IsTooLong, IsNoLine, Taken, taken_text, StopsAt, Reading, fed, broken, HasRead}
+use Rattle.journal_text.specs.ReadingWords.{IsEntry}
 use Rattle.journal_text.proofs.JournalLemmas.{line_then, line_short}
 
 -- ---- more bytes

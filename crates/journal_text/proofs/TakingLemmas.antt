@@ -3,11 +3,11 @@ use Rattle.std.proofs.Common.{arith, ◌≡◌, ℕ, ◌+◌, List, [], ◌∷�
 use Rattle.session_machine.specs.declared.entry.Entry.{Entry}
 use Rattle.session_machine.specs.declared.profile.Profile.{Profile}
 use Rattle.session_machine.specs.History.{IsLegalIn, nothing}
-use Rattle.journal_text.specs.declared.judgement.Judgement.{Judgement}
-use Rattle.journal_text.specs.declared.judgement.Judgement.TheVariants.{Legal, Illegal}
-use Rattle.journal_text.specs.declared.judgement.Why.{Why}
-use Rattle.journal_text.specs.Checking.{Checked, HasTaken, Known, Knows, KnowsWhileLegal}
-use Rattle.journal_text.specs.Judging.{Judges}
+use Rattle.journal_text.specs.declared.judging.judgement.Judgement.{Judgement}
+use Rattle.journal_text.specs.declared.judging.judgement.Judgement.TheVariants.{Legal, Illegal}
+use Rattle.journal_text.specs.declared.judging.judgement.Why.{Why}
+use Rattle.journal_text.specs.JudgingChecker.{Checked, HasTaken, Known, Knows, KnowsWhileLegal}
+use Rattle.journal_text.specs.JudgingEntries.{Judges}
 use Rattle.journal_text.proofs.JudgingLemmas.{illegal-stays}
 
 one_more : (list : List Entry) (e : Entry) (taken : ℕ) → taken ≡ length list
@@ -18,7 +18,7 @@ one_more list e taken is = omega (arith, is, length-append list (e ∷ []))
 pub taken-behind : (c : Checked) (list : List Entry) (e : Entry) (place : ℕ) (why : Why)
     → c.verdict ≡ Illegal place why → HasTaken c list
     → HasTaken (record {
-      first = c.first;
+      first_place = c.first_place;
       taken = c.taken + 1;
       verdict = c.verdict;
       known =
@@ -26,9 +26,9 @@ pub taken-behind : (c : Checked) (list : List Entry) (e : Entry) (place : ℕ) (
     }) (list ++ e ∷ [])
 taken-behind c list e place why is has = record {
   taken = one_more list e c.taken has.taken;
-  judges = subst (Judges c.known.profile c.first (list ++ e ∷ [])) (sym is)
-      (illegal-stays c.known.profile c.first list (e ∷ []) place why
-      (subst (Judges c.known.profile c.first list) is has.judges));
+  judges = subst (Judges c.known.profile c.first_place (list ++ e ∷ [])) (sym is)
+      (illegal-stays c.known.profile c.first_place list (e ∷ []) place why
+      (subst (Judges c.known.profile c.first_place list) is has.judges));
   knows = subst (λ v. KnowsWhileLegal v c.known (list ++ e ∷ [])) (sym is) tt;
 }
 
@@ -52,16 +52,22 @@ JudgesNext place taken old new e judgement = (first : ℕ) (before : List Entry)
 -- a legal one has the judgement of its next entry
 pub taken-next : (c : Checked) (list : List Entry) (e : Entry) (known : Known)
     (judgement : Judgement) → ((place : ℕ) (why : Why) → c.verdict ≡ Illegal place why → ⊥)
-    → JudgesNext (c.first + c.taken) c.taken c.known known e judgement
+    → JudgesNext (c.first_place + c.taken) c.taken c.known known e judgement
     → known.profile ≡ c.known.profile → HasTaken c list
-    → HasTaken (record { first = c.first; taken = c.taken + 1; verdict = judgement; known = known })
+    → HasTaken (record {
+      first_place = c.first_place;
+      taken = c.taken + 1;
+      verdict = judgement;
+      known = known;
+    })
     (list ++ e ∷ [])
 taken-next c list e known judgement apart next same has =
-    let parts = legal-parts c.known.profile c.first list c.known c.verdict apart has.judges
+    let parts = legal-parts c.known.profile c.first_place list c.known c.verdict apart has.judges
     has.knows in
-    let judged = next c.first list (ap (λ n. c.first + n) has.taken) has.taken parts.0 parts.1 in
+    let judged = next c.first_place list (ap (λ n. c.first_place + n) has.taken) has.taken parts.0
+    parts.1 in
     record {
       taken = one_more list e c.taken has.taken;
-      judges = subst (λ p. Judges p c.first (list ++ e ∷ []) judgement) (sym same) judged.0;
+      judges = subst (λ p. Judges p c.first_place (list ++ e ∷ []) judgement) (sym same) judged.0;
       knows = judged.1;
     }

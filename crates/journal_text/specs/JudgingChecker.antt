@@ -7,22 +7,22 @@ use Rattle.std.specs.Ordering.{nat_cmp}
 use Rattle.session_machine.specs.declared.entry.Entry.{Entry}
 use Rattle.session_machine.specs.declared.item.Item.{Item}
 use Rattle.session_machine.specs.declared.profile.Profile.{Profile}
-use Rattle.journal_text.specs.declared.judgement.Judgement.{Judgement}
-use Rattle.journal_text.specs.declared.judgement.Judgement.TheVariants.{Legal, Illegal}
-use Rattle.journal_text.specs.Judging.{Judges, count_before, draw_before, item_before}
+use Rattle.journal_text.specs.declared.judging.judgement.Judgement.{Judgement}
+use Rattle.journal_text.specs.declared.judging.judgement.Judgement.TheVariants.{Legal, Illegal}
+use Rattle.journal_text.specs.JudgingEntries.{Judges, count_before, draw_before, item_before}
 
 -- What is known behind a legal history: its profile, the count of faults, the greatest cookie
 -- drawn, and the items that there are.
 pub record Known : Type 0 where
   pub profile : Profile
-  pub count : ℕ
+  pub faults : ℕ
   pub draw : ℕ
   pub items : List (List ℕ × Item)
 
 -- The place of the first entry, how many entries were taken, the judgement of these, and what is
 -- known while they are legal.
 pub record Checked : Type 0 where
-  pub first : ℕ
+  pub first_place : ℕ
   pub taken : ℕ
   pub verdict : Judgement
   pub known : Known
@@ -33,7 +33,7 @@ item_among pairs key = lookup (is_at (slice_cmp nat_cmp key)) pairs
 
 -- what is known is what stands behind the list
 pub record Knows (known : Known) (list : List Entry) : Type 0 where
-  pub count : known.count ≡ count_before list
+  pub faults : known.faults ≡ count_before list
   pub draw : known.draw ≡ draw_before list
   pub items : (key : List ℕ) → item_among known.items key ≡ item_before known.profile list key
 
@@ -45,5 +45,5 @@ KnowsWhileLegal (Illegal place why) known list = ⊤
 -- The checker has taken the entries of the list, and no others.
 pub record HasTaken (c : Checked) (list : List Entry) : Type 0 where
   pub taken : c.taken ≡ length list
-  pub judges : Judges c.known.profile c.first list c.verdict
+  pub judges : Judges c.known.profile c.first_place list c.verdict
   pub knows : KnowsWhileLegal c.verdict c.known list

@@ -11,12 +11,12 @@ use Rattle.session_machine.specs.declared.profile.Profile.{Profile}
 use Rattle.session_machine.specs.Liveness.{ItemFits}
 use Rattle.session_machine.specs.Machine.{Circumstances, effect}
 use Rattle.session_machine.specs.History.{IsDead, after_reply}
-use Rattle.journal_text.specs.declared.judgement.Why.{Why}
-use Rattle.journal_text.specs.declared.judgement.Why.TheVariants.{NotDue, WrongReply}
-use Rattle.journal_text.specs.declared.asking.Left.{Left}
-use Rattle.journal_text.specs.declared.asking.Left.TheVariants as left
-use Rattle.journal_text.specs.Checking.{item_among}
-use Rattle.journal_text.specs.Judging.{IsNotDead, IsRightReply, IsWrongReply}
+use Rattle.journal_text.specs.declared.judging.judgement.Why.{Why}
+use Rattle.journal_text.specs.declared.judging.judgement.Why.TheVariants.{NotDue, WrongReply}
+use Rattle.journal_text.specs.declared.judging.asking.Left.{Left}
+use Rattle.journal_text.specs.declared.judging.asking.Left.TheVariants as left
+use Rattle.journal_text.specs.JudgingChecker.{item_among}
+use Rattle.journal_text.specs.JudgingEntries.{IsNotDead, IsRightReply, IsWrongReply}
 
 -- each item is in range
 abbrev pub ItemsFit : List (List ℕ × Item) → Type 0

@@ -1,8 +1,8 @@
-pub mod Checking
-pub mod Deeds
-pub mod JournalText
-pub mod Judging
-pub mod Next
-pub mod Reading
-pub mod Spelled
-pub mod Verdict
+pub mod JudgingChecker
+pub mod JudgingDeeds
+pub mod JudgingEntries
+pub mod JudgingLine
+pub mod ReadingAnswers
+pub mod ReadingText
+pub mod ReadingWords
+pub mod WritingText

@@ -1,10 +1,11 @@
 -- A reader of journals, as its callers see it, and where a text stops being a journal.
 use Rattle.std.specs.Prelude.{◌≡◌, ◌≢◌, ◌⊎◌, ℕ, ◌+◌, ◌<◌, List, [], ◌++◌, length, Option, Some, None, Bool, true, false, IsFalse, MatchBool, ⊤, if◌then◌else◌}
 use Rattle.std.specs.List.{AllByRecursion}
+use Rattle.asp_base.specs.Limits.{most_piece}
 use Rattle.session_machine.specs.declared.entry.Entry.{Entry}
 use Rattle.session_machine.specs.declared.profile.Profile.{Profile}
 use Rattle.plain_words.specs.Words.{HasNo, SplitsAt}
-use Rattle.journal_text.specs.JournalText.{head_words, entry_words, line, journal_text, PlaceFits, EntryFits, IsJournal, most_line}
+use Rattle.journal_text.specs.WritingText.{head_words, entry_words, line, journal_text, PlaceFits, EntryFits, IsJournal, most_line}
 
 -- ---- lines
 
@@ -55,7 +56,7 @@ abbrev pub IsJournalOf : List ℕ → Taken → Type 0
 IsJournalOf text None = ⊥
 IsJournalOf text (Some t) = IsJournal text t.0 t.1 t.2
 
--- what is left of a text that ends is an unfinished line, or nothing where a first line is due
+-- what is left of a text that ends is an unfinished line, or nothing where no first line was taken
 abbrev pub IsCutOff : Option Profile → List ℕ → Type 0
 IsCutOff begun rest = HasNo 10 rest × ((rest ≢ []) ⊎ (begun ≡ None))
 
@@ -79,10 +80,6 @@ pub record Reading : Type 0 where
   pub begun : Option Profile
   pub is_broken : Bool
   pub may_feed : Bool
-
--- the most bytes of a piece
-abbrev pub most_piece : ℕ
-most_piece = 16384
 
 -- the most bytes that a reader holds: a line and a piece
 abbrev pub most_held : ℕ

@@ -1,27 +1,13 @@
-//! What the server did, written down and judged.
+//! What the server did, written down, read again and judged: a room for each.
 #![tactic(auto)]
 
-mod ask_words;
-mod asking;
-mod checker;
-mod content_words;
-mod entry_words;
-mod head_words;
-mod judgement;
-mod laws;
-mod number_words;
-mod reader;
-mod replies;
-mod reply_words;
-mod standing;
-mod text_laws;
-mod verdict;
-mod writer;
+mod judging;
+mod reading;
+mod writing;
 
-pub use checker::Checker;
-pub use judgement::{Judgement, Why};
-pub use laws::{illegal_stays, legal_is_judged_legal, one_judgement};
-pub use reader::{JournalNext, JournalReader, MOST_PIECE};
-pub use text_laws::{lines_are_short, one_journal, stops_at_one_offset};
-pub use verdict::write_judgement;
-pub use writer::{MOST_LINE, write_entry, write_head};
+pub use asp_base::MOST_PIECE;
+pub use judging::{
+    Checker, Judgement, Why, illegal_stays, legal_is_judged_legal, one_judgement, write_judgement,
+};
+pub use reading::{JournalNext, JournalReader, lines_are_short, one_journal, stops_at_one_offset};
+pub use writing::{MOST_LINE, write_entry, write_head};

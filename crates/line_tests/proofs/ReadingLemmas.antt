@@ -2,8 +2,8 @@
 use Rattle.std.proofs.Common.{◌≡◌, Option, Some, sym, subst, ◌∙◌}
 use Rattle.session_machine.specs.declared.entry.Entry.{Entry}
 use Rattle.session_machine.specs.declared.profile.Profile.{Profile}
-use Rattle.journal_text.specs.JournalText.{TellsOnly}
-use Rattle.journal_text.specs.Reading.{Reading, TakesEntry}
+use Rattle.journal_text.specs.WritingText.{TellsOnly}
+use Rattle.journal_text.specs.ReadingText.{Reading, TakesEntry}
 
 pub told_by : (e : Entry) (old new : Reading) (profile : Profile) → TakesEntry e old new
     → new.begun ≡ Some profile → TellsOnly profile e.reply

@@ -13,7 +13,7 @@ use Rattle.session_machine.specs.declared.entry.Entry.{Entry}
 use Rattle.session_machine.specs.declared.entry.Deed.TheVariants.{Asked}
 use Rattle.desk.specs.Draws.{draws, draw_of, deed_draws, draws_in}
 use Rattle.session_machine.specs.Profiles.{newest}
-use Rattle.journal_text.specs.JournalText.{entry_line, head_line, journal_text}
+use Rattle.journal_text.specs.WritingText.{entry_line, head_line, journal_text}
 use Rattle.pipe_command.specs.PlainRun.{Asking, asking_of, askings, written}
 use Rattle.pipe_command.specs.Progress.{total_draws}
 

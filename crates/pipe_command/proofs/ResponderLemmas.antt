@@ -7,7 +7,7 @@ use Rattle.asp_messages.specs.RequestSpelling.{SpellsRequest}
 use Rattle.asp_messages.specs.Stream.{HasNoMessage, IsHopeless}
 use Rattle.asp_messages.proofs.RequestLemmas.{spelling_some}
 use Rattle.session_machine.specs.Profiles.{newest}
-use Rattle.journal_text.specs.JournalText.{journal_text}
+use Rattle.journal_text.specs.WritingText.{journal_text}
 use Rattle.keeper.specs.declared.keeping.Keeper.{Ghosts}
 use Rattle.message_framing.specs.Held.{Held, TakesMessage, broken, fed, waiting}
 use Rattle.stream_core.specs.Connection.{Connection}

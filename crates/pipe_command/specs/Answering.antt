@@ -9,7 +9,7 @@ use Rattle.asp_messages.specs.ReplyText.{reply_text}
 use Rattle.desk.specs.Draws.{draw_of, draws_in}
 use Rattle.desk.specs.Standing.{DeskState, DeskStandsFor}
 use Rattle.session_machine.specs.Profiles.{newest}
-use Rattle.journal_text.specs.JournalText.{entry_line}
+use Rattle.journal_text.specs.WritingText.{entry_line}
 use Rattle.session_machine.specs.declared.entry.Entry.{Entry}
 use Rattle.session_machine.specs.History.{nothing}
 use Rattle.shard_core.specs.Standing.{asked_entry}

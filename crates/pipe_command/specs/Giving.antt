@@ -2,7 +2,7 @@
 use Rattle.std.specs.Prelude.{ℕ, List, []}
 use Rattle.asp_messages.specs.ReplyText.{body_of}
 use Rattle.session_machine.specs.Profiles.{newest}
-use Rattle.journal_text.specs.JournalText.{journal_text}
+use Rattle.journal_text.specs.WritingText.{journal_text}
 use Rattle.pipe_command.specs.declared.responder.Given.{Given}
 use Rattle.pipe_command.specs.declared.responder.Given.TheVariants as givens
 

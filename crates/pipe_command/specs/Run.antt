@@ -11,7 +11,7 @@ use Rattle.session_machine.specs.declared.entry.Entry.{Entry}
 use Rattle.session_machine.specs.declared.item.Item.{Item}
 use Rattle.session_machine.specs.History.{nothing}
 use Rattle.session_machine.specs.Profiles.{newest}
-use Rattle.journal_text.specs.JournalText.{journal_text}
+use Rattle.journal_text.specs.WritingText.{journal_text}
 use Rattle.shard_core.specs.Standing.{StandsFor}
 use Rattle.pipe_command.specs.declared.pipe.Pipe.{Pipe}
 use Rattle.pipe_command.specs.declared.pipe.Verdict.{Verdict}

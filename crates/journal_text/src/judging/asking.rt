@@ -1,19 +1,19 @@
 //! One request on the items of a history.
-ghost use Rattle.std.specs.Prelude.{◌≡◌, ◌≤◌, ◌^◌, [], Some, None, IfOk, IfSome, MatchOption, OnOk, OnErr, if◌then◌else◌};
+ghost use Rattle.std.specs.Prelude.{◌≡◌, ◌≤◌, ◌^◌, Some, None, IfOk, IfSome, MatchOption, OnOk, OnErr};
 ghost use Rattle.asp_messages.specs.Ranges.{RequestFits};
 ghost use Rattle.session_machine.specs.declared.entry.Deed.TheVariants.{Asked};
 ghost use Rattle.session_machine.specs.History.{DrawFits};
 ghost use Rattle.session_machine.specs.Liveness.{ItemFits};
 ghost use Rattle.session_machine.specs.Machine.{Circumstances};
-ghost use Rattle.session_machine.specs.Verdicts.{changed, body_asked};
-ghost use Rattle.journal_text.specs.Checking.{item_among};
-ghost use Rattle.journal_text.specs.Deeds.{IsBarred, IsDone, IsLeft, ItemsFit, Leaves, ReplacesItem};
+ghost use Rattle.session_machine.specs.Verdicts.{changed};
+ghost use Rattle.journal_text.specs.JudgingChecker.{item_among};
+ghost use Rattle.journal_text.specs.JudgingDeeds.{IsBarred, IsDone, IsLeft, ItemsFit, Leaves, ReplacesItem};
 
-use crate::Why;
-use crate::replies::{is_refusal, wrong_reply};
+use super::Why;
+use super::replies::{is_refusal, wrong_reply};
 use asp_base::{Bytes, NoMemory};
 use asp_messages::{Ask, Reply, Request};
-use session_machine::{Change, Item, Profile, decide};
+use session_machine::{Change, Item, Profile, body_asked, body_changed, decide};
 use std::alloc::Global;
 use std::collections::BTreeMap;
 
@@ -26,27 +26,6 @@ pub enum Left {
     Item,
     /// Nothing: the item of this key is to be removed.
     Nothing(Bytes),
-}
-
-/// The content that the request brings, which is not copied.
-fn body_asked(alloc: Global, ask: Ask) -> Bytes
-    ensures { result ≡ body_asked ask }
-{
-    match ask {
-        Ask::Write { body, .. } => body,
-        _ => Bytes::adopt(Vec::new(alloc)),
-    }
-}
-
-/// The content of an item that is made, which is not copied.
-fn body_made(alloc: Global, of_request: bool, ask: Ask) -> Bytes
-    ensures { result ≡ (if of_request then body_asked ask else []) }
-{
-    if of_request {
-        body_asked(alloc, ask)
-    } else {
-        Bytes::adopt(Vec::new(alloc))
-    }
 }
 
 /// Makes the change to an item that is there.
@@ -101,7 +80,7 @@ fn ask_there(
 {
     let verdict = decide(Some(item), t, &request, drawn, profile);
     let refused = is_refusal(&reply);
-    if let Some(why) = wrong_reply(alloc, reply, verdict.kind, Some(item), rose)? {
+    if let Some(why) = wrong_reply(reply, verdict.kind, Some(item), rose)? {
         return Ok(Left::Wrong(why));
     }
     if refused {
@@ -133,7 +112,7 @@ fn change_absent(
     {
         let Request { key, ask } = request;
         let item = Item {
-            body: body_made(alloc, body_of_request, ask),
+            body: body_changed(alloc, body_of_request, ask, None),
             minutes,
             fresh,
             holder,
@@ -143,38 +122,6 @@ fn change_absent(
         items.insert(key, item)?;
     }
     Ok(())
-}
-
-/// A request where the session has no item.
-fn ask_absent(
-    alloc: Global,
-    profile: Profile,
-    items: &mut BTreeMap<Bytes, Item>,
-    request: Request,
-    t: u64,
-    drawn: u64,
-    rose: bool,
-    reply: Reply,
-) -> Result<Option<Why>, NoMemory>
-    requires moment { t ≤ 2 ^ 62 }
-    requires request { RequestFits request }
-    requires drawn { DrawFits request.ask drawn }
-    requires absent { item_among items.old.entries request.key ≡ None }
-    requires fits { ItemsFit items.old.entries }
-    ensures asked { let at : Circumstances = record { moment = t; drawn = drawn; rose = rose } in
-        IfOk result (λ why. MatchOption why
-        (IsDone profile items.old.entries items.new.entries (Asked request) at reply)
-        (IsBarred profile items.old.entries (Asked request) at reply)) }
-    ensures fits { ItemsFit items.new.entries }
-    ensures err { OnErr result (items.new.entries ≡ items.old.entries) }
-{
-    let verdict = decide(None, t, &request, drawn, profile);
-    let refused = is_refusal(&reply);
-    let why = wrong_reply(alloc, reply, verdict.kind, None, rose)?;
-    if why.is_none() && !refused {
-        change_absent(alloc, items, request, verdict.change)?;
-    }
-    Ok(why)
 }
 
 /// A request, by one look-up of its item.
@@ -200,7 +147,13 @@ pub fn ask(
     ensures err { OnErr result (items.new.entries ≡ items.old.entries) }
 {
     let Some(item) = items.get_mut(&request.key) else {
-        return ask_absent(alloc, profile, items, request, t, drawn, rose, reply);
+        let verdict = decide(None, t, &request, drawn, profile);
+        let refused = is_refusal(&reply);
+        let wrong = wrong_reply(reply, verdict.kind, None, rose)?;
+        if wrong.is_none() && !refused {
+            change_absent(alloc, items, request, verdict.change)?;
+        }
+        return Ok(wrong);
     };
     match ask_there(alloc, profile, item, request, t, drawn, rose, reply)? {
         Left::Wrong(why) => Ok(Some(why)),

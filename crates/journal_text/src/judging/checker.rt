@@ -2,11 +2,11 @@
 ghost use Rattle.std.specs.Prelude.{◌≡◌, ◌+◌, ◌<◌, ◌-◌, ◌^◌, ◌++◌, ◌∷◌, [], List, OnOk, OnErr};
 ghost use Rattle.session_machine.specs.declared.entry.Entry.{Entry};
 ghost use Rattle.session_machine.specs.History.{IsFormed};
-ghost use Rattle.journal_text.specs.Checking.{HasTaken};
-ghost use Rattle.journal_text.specs.Judging.{Judges};
+ghost use Rattle.journal_text.specs.JudgingChecker.{HasTaken};
+ghost use Rattle.journal_text.specs.JudgingEntries.{Judges};
 
-use crate::Judgement;
-use crate::standing::Standing;
+use super::Judgement;
+use super::standing::Standing;
 use asp_base::NoMemory;
 use session_machine::{Entry, Profile};
 use std::alloc::Global;
@@ -25,12 +25,12 @@ pub struct Checker {
 
 impl Model for Checker {
     ghost use Rattle.std.specs.Prelude.{◌<◌, ◌-◌, ◌^◌};
-    ghost use Rattle.journal_text.specs.Checking.{Checked};
+    ghost use Rattle.journal_text.specs.JudgingChecker.{Checked};
 
     ghost Value = { Checked };
 
     ghost view = { λ c. record {
-      first = c.first_place;
+      first_place = c.first_place;
       taken = c.taken;
       verdict =
           c.verdict;
@@ -45,8 +45,8 @@ impl Checker {
     /// `first_place`, below 2^63 - 1. It takes no memory.
     pub fn new(alloc: Global, profile: Profile, first_place: u64) -> Checker
         requires { first_place < 2 ^ 63 - 1 }
-        ensures first { result.first ≡ first_place }
-        ensures count { result.taken ≡ 0 }
+        ensures first_place { result.first_place ≡ first_place }
+        ensures none_taken { result.taken ≡ 0 }
         ensures profile { result.known.profile ≡ profile }
         ensures taken { HasTaken result [] }
     {
@@ -69,8 +69,8 @@ impl Checker {
         ensures taken { (list : List Entry) → HasTaken self.old list
             → OnOk result (HasTaken self.new (list ++ entry ∷ [])) }
 
-        ensures count { OnOk result (self.new.taken ≡ self.old.taken + 1) }
-        ensures first { self.new.first ≡ self.old.first }
+        ensures one_more { OnOk result (self.new.taken ≡ self.old.taken + 1) }
+        ensures first_place { self.new.first_place ≡ self.old.first_place }
         ensures profile { self.new.known.profile ≡ self.old.known.profile }
         ensures err { OnErr result (self.new ≡ self.old) }
     {
@@ -95,7 +95,7 @@ impl Checker {
     pub fn verdict(&self) -> &Judgement
         ensures verdict { result.now ≡ self.now.verdict }
         ensures judges { (list : List Entry) → HasTaken self.now list
-            → Judges self.now.known.profile self.now.first list result.now }
+            → Judges self.now.known.profile self.now.first_place list result.now }
     {
         &self.verdict
     }

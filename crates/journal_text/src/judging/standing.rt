@@ -6,13 +6,13 @@ ghost use Rattle.session_machine.specs.declared.entry.Entry.{Entry};
 ghost use Rattle.session_machine.specs.History.{DeedFits, IsFormed, IsLegalIn, nothing};
 ghost use Rattle.session_machine.specs.Machine.{Circumstances};
 ghost use Rattle.session_machine.specs.Profiles.{newest};
-ghost use Rattle.journal_text.specs.Checking.{Knows, KnowsWhileLegal};
-ghost use Rattle.journal_text.specs.Deeds.{IsBarred, IsDone, ItemsFit};
-ghost use Rattle.journal_text.specs.Judging.{IsReason, Judges};
+ghost use Rattle.journal_text.specs.JudgingChecker.{Knows, KnowsWhileLegal};
+ghost use Rattle.journal_text.specs.JudgingDeeds.{IsBarred, IsDone, ItemsFit};
+ghost use Rattle.journal_text.specs.JudgingEntries.{IsReason, Judges};
 
-use crate::asking::ask;
-use crate::replies::{has_risen, wrong_reply};
-use crate::{Judgement, Why};
+use super::asking::ask;
+use super::replies::{has_risen, wrong_reply};
+use super::{Judgement, Why};
 use asp_base::{Bytes, NoMemory};
 use asp_messages::Reply;
 use session_machine::{Deed, Entry, Item, Kind, Profile, live};
@@ -31,14 +31,14 @@ pub struct Standing {
 }
 
 impl Model for Standing {
-    ghost use Rattle.journal_text.specs.Checking.{Known};
-    ghost use Rattle.journal_text.specs.Deeds.{ItemsFit};
+    ghost use Rattle.journal_text.specs.JudgingChecker.{Known};
+    ghost use Rattle.journal_text.specs.JudgingDeeds.{ItemsFit};
 
     ghost Value = { Known };
 
     ghost view = { λ s. record {
       profile = s.profile;
-      count = s.faults;
+      faults = s.faults;
       draw = s.above;
       items = s.items.entries;
     } };
@@ -85,7 +85,7 @@ fn act(
     match deed {
         Deed::Asked(request) => ask(alloc, profile, items, request, t, drawn, rose, reply),
         Deed::Expired(key) => Ok(expire(items, &key, t)),
-        Deed::Looked => wrong_reply(alloc, reply, Kind::Done, None, rose),
+        Deed::Looked => wrong_reply(reply, Kind::Done, None, rose),
     }
 }
 
@@ -180,11 +180,11 @@ impl Standing {
     ) -> Result<Judgement, NoMemory>
         requires entry { IsFormed entry }
         requires few { taken < 2 ^ 63 - 1 }
-        ensures judged { (first : ℕ) (before : List Entry) → place ≡ first + length before
-            → taken ≡ length before → IsLegalIn self.old.profile nothing 0 before
-            → Knows self.old before
-            → IfOk result (λ judgement. Judges self.old.profile first (before
-            ++ entry ∷ []) judgement
+        ensures judged { (first_place : ℕ) (before : List Entry)
+            → place ≡ first_place + length before → taken ≡ length before
+            → IsLegalIn self.old.profile nothing 0 before → Knows self.old before
+            → IfOk result (λ judgement.
+            Judges self.old.profile first_place (before ++ entry ∷ []) judgement
             × KnowsWhileLegal judgement self.new (before ++ entry ∷ [])) }
         ensures profile { self.new.profile ≡ self.old.profile }
         ensures err { OnErr result (self.new ≡ self.old) }

@@ -1,21 +1,18 @@
 //! A reader of journals.
 ghost use Rattle.std.specs.Prelude.{◌≡◌, ◌⊎◌, ◌+◌, ◌-◌, ◌<◌, ◌≤◌, ◌^◌, ◌++◌, ◌↔◌, ℕ, List, [], true, false, length, take, drop, Option, Some, None, IsTrue, IsFalse, OnOk, OnErr, IfSome, IfNone, IsSome, MatchOption};
+ghost use Rattle.asp_base.specs.Limits.{most_piece};
 ghost use Rattle.plain_words.specs.Words.{HasNo, SplitsAt};
-ghost use Rattle.journal_text.specs.JournalText.{PlaceFits, EntryFits, head_words, entry_words, most_line};
-ghost use Rattle.journal_text.specs.Reading.{IsNoLine, Taken, IsJournalOf, StopsAt, Reading, most_piece, most_held, new_reader, fed, waiting, broken, TakesLine, TakesEntry, HasRead};
-ghost use Rattle.journal_text.specs.Next.{IfHead, IfEntry, IfNotAJournal, taken_with};
+ghost use Rattle.journal_text.specs.WritingText.{PlaceFits, EntryFits, head_words, entry_words, most_line};
+ghost use Rattle.journal_text.specs.ReadingText.{IsNoLine, Taken, IsJournalOf, StopsAt, Reading, most_held, new_reader, fed, waiting, broken, TakesLine, TakesEntry, HasRead};
+ghost use Rattle.journal_text.specs.ReadingAnswers.{IfHead, IfEntry, IfNotAJournal, taken_with};
 
-use crate::MOST_LINE;
-use crate::entry_words::read_entry;
-use crate::head_words::read_head;
+use super::journal_line::{read_entry, read_head};
+use crate::writing::MOST_LINE;
 use asp_base::NoMemory;
 use held_lines::HeldLines;
 use session_machine::{Entry, Profile};
 use std::alloc::Global;
 use std::marker::Model;
-
-/// The most bytes of a piece that is fed.
-pub const MOST_PIECE: usize = 16_384;
 
 /// What a reader answers when it is asked for the next line.
 #[derive(Debug, Drop)]
@@ -54,8 +51,8 @@ pub struct JournalReader {
 impl Model for JournalReader {
     ghost use Rattle.std.specs.Prelude.{◌≡◌, ◌+◌, ◌-◌, ◌<◌, ◌≤◌, ◌^◌, length, IsTrue, IsFalse};
     ghost use Rattle.plain_words.specs.Words.{HasNo};
-    ghost use Rattle.journal_text.specs.JournalText.{most_line};
-    ghost use Rattle.journal_text.specs.Reading.{Reading, most_held};
+    ghost use Rattle.journal_text.specs.WritingText.{most_line};
+    ghost use Rattle.journal_text.specs.ReadingText.{Reading, most_held};
 
     ghost Value = { Reading };
 

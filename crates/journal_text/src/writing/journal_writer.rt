@@ -5,7 +5,7 @@ ghost use Rattle.asp_messages.specs.Appending.{Extends};
 ghost use Rattle.asp_messages.specs.PlainSpelling.{◌then◌, bytes_word};
 ghost use Rattle.session_machine.specs.History.{IsFormed};
 ghost use Rattle.plain_words.specs.Words.{AreBytes};
-ghost use Rattle.journal_text.specs.JournalText.{PlaceFits, EntryFits, DeedHasBytes, AskHasBytes, ReplyHasBytes, TellsOnly, head_start, head_line, entry_line, number_words, key_word, deed_words, reply_words};
+ghost use Rattle.journal_text.specs.WritingText.{PlaceFits, EntryFits, DeedHasBytes, AskHasBytes, ReplyHasBytes, TellsOnly, head_start, head_line, entry_line, number_words, key_word, deed_words, reply_words};
 
 use asp_base::{Bytes, NoMemory};
 use asp_messages::{
@@ -81,7 +81,7 @@ fn push_numbers(out: &mut Vec<u8>, entry: &Entry) -> Result<(), NoMemory>
     then_number(out, entry.drawn)
 }
 
-#[tactic(auto, unfolding(crate::specs::JournalText::entry_words))]
+#[tactic(auto, unfolding(crate::specs::WritingText::entry_words))]
 fn push_entry(out: &mut Vec<u8>, profile: Profile, entry: &Entry) -> Result<(), NoMemory>
     ensures ok { OnOk result (out.new.items ≡ out.old.items ++ entry_line profile entry.now) }
     ensures err { OnErr result (Extends out.old.items out.new.items) }

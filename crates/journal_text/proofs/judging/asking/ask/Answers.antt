@@ -1,14 +1,14 @@
 use Rattle.std.proofs.Common.{Some, ap, subst, sym, ◌∙◌}
 use Rattle.std.proofs.lemmas.Map.Steps.{set_value_same}
 use Rattle.session_machine.specs.Machine.{Circumstances}
-use Rattle.journal_text.specs.Deeds.{Leaves}
+use Rattle.journal_text.specs.JudgingDeeds.{Leaves}
 use Rattle.journal_text.proofs.ItemLemmas.{asked-item, asked-nothing, on_err, some-there}
-use Rattle.journal_text.proofs.asking.ask.Goals as goal
+use Rattle.journal_text.proofs.judging.asking.ask.Goals as goal
 
 pub returns-in_err-why-clause-err : goal.returns-in_err-why-clause-err
 returns-in_err-why-clause-err c =
     let new = c.ask_there.new.item in
-    on_err c.from_residual.result _
+    on_err c.from_residual-in_err-why.result _
     ((c.get_mut.follows.holds new).0 ∙ set_value_same _ _ new
     (sym c.in-Some.ensures.value ∙ ap Some (sym c.in_err-why.ensures.err)))
 

@@ -1,7 +1,7 @@
 use Rattle.std.proofs.Common.{subst, sym}
 use Rattle.session_machine.specs.History.{IsDead}
 use Rattle.journal_text.proofs.ItemLemmas.{updates-Sets}
-use Rattle.journal_text.proofs.standing.expire.Goals as goal
+use Rattle.journal_text.proofs.judging.standing.expire.Goals as goal
 
 pub returns-in-Some-clause-expired : goal.returns-in-Some-clause-expired
 returns-in-Some-clause-expired c = (

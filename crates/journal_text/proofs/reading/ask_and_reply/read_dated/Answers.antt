@@ -1,5 +1,5 @@
 use Rattle.journal_text.proofs.ContentLemmas.{is_dated_tail, no_dated_age, no_dated_since}
-use Rattle.journal_text.proofs.reply_words.read_dated.Goals as goal
+use Rattle.journal_text.proofs.reading.ask_and_reply.read_dated.Goals as goal
 
 pub returns-in_err-age : goal.returns-in_err-age
 returns-in_err-age c = rw c.from_residual.ensures

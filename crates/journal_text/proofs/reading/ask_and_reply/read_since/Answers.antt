@@ -1,6 +1,6 @@
 use Rattle.std.proofs.lemmas.Bool.{both_ways}
 use Rattle.journal_text.proofs.ContentLemmas.{is_dash, is_since, no_since}
-use Rattle.journal_text.proofs.reply_words.read_since.Goals as goal
+use Rattle.journal_text.proofs.reading.ask_and_reply.read_since.Goals as goal
 
 pub returns-then-is : goal.returns-then-is
 returns-then-is c = is_dash c.args.text.now (c.is.ensures.0 c.if-is.true)

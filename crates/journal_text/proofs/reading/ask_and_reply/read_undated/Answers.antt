@@ -1,6 +1,6 @@
 use Rattle.session_machine.specs.declared.profile.Profile.TheVariants.{One, Two}
 use Rattle.journal_text.proofs.ContentLemmas.{is_plain_tail, no_plain_tail}
-use Rattle.journal_text.proofs.reply_words.read_undated.Goals as goal
+use Rattle.journal_text.proofs.reading.ask_and_reply.read_undated.Goals as goal
 
 pub returns-in_err-age-clause-one : goal.returns-in_err-age-clause-one
 returns-in_err-age-clause-one c = rw c.from_residual.ensures

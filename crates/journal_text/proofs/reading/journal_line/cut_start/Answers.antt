@@ -1,5 +1,5 @@
 use Rattle.journal_text.proofs.JournalLemmas.{no_start}
-use Rattle.journal_text.proofs.head_words.cut_start.Goals as goal
+use Rattle.journal_text.proofs.reading.journal_line.cut_start.Goals as goal
 
 pub returns-in_err-rest : goal.returns-in_err-rest
 returns-in_err-rest c = rw c.from_residual.ensures

@@ -1,0 +1,12 @@
+//! Journals judged: whether entries are a legal history, and the line that tells it.
+
+mod asking;
+mod checker;
+mod judgement;
+mod judgement_line;
+mod replies;
+mod standing;
+
+pub use checker::Checker;
+pub use judgement::{Judgement, Why, illegal_stays, legal_is_judged_legal, one_judgement};
+pub use judgement_line::write_judgement;

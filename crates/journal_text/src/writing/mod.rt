@@ -1,0 +1,5 @@
+//! Journals written: a first line, and a line for each entry, appended to a buffer.
+
+mod journal_writer;
+
+pub use journal_writer::{MOST_LINE, spell_in, write_entry, write_head};
