@@ -8,17 +8,17 @@ use Rattle.desk.specs.Standing.{DeskState, DeskStandsFor}
 use Rattle.session_machine.specs.History.{nothing}
 use Rattle.shard_core.specs.Standing.{asked_entry}
 use Rattle.page_script.specs.World.{Turn, history, entry_of, drawn_for}
-use Rattle.page_script.specs.Standing.{DeskStands, turn_at}
+use Rattle.page_script.specs.Standing.{DeskHasTurns, turn_at}
 
-pub DeskStands-push : (CanCount : ℕ → Type 0) (desk desk' : DeskState) (turns : List Turn)
+pub DeskHasTurns-push : (CanCount : ℕ → Type 0) (desk desk' : DeskState) (turns : List Turn)
     (number t drawn : ℕ) (request : Request) (reply : Reply)
-    → DeskStands CanCount desk turns → desk'.cookies.last ≡ desk.cookies.last
+    → DeskHasTurns CanCount desk turns → desk'.cookies.last ≡ desk.cookies.last
     → (DeskStandsFor CanCount 1 nothing 0 (history turns) desk
     → (drawn ≡ draw_of 1 desk.cookies.last (draws_in (history turns)) request.ask)
     × DeskStandsFor CanCount 1 nothing 0
     (history turns ++ asked_entry 0 t request drawn reply desk'.faults ∷ []) desk')
-    → DeskStands CanCount desk' (turns ++ turn_at number t request turns reply desk'.faults ∷ [])
-DeskStands-push CanCount desk desk' turns number t drawn request reply stands last acts = record {
+    → DeskHasTurns CanCount desk' (turns ++ turn_at number t request turns reply desk'.faults ∷ [])
+DeskHasTurns-push CanCount desk desk' turns number t drawn request reply stands last acts = record {
   stands =
       subst (λ list. DeskStandsFor CanCount 1 nothing 0 list desk')
       (ap (λ d. history turns ++ asked_entry 0 t request d reply desk'.faults ∷ []) counted

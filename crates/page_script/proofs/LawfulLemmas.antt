@@ -22,9 +22,9 @@ use Rattle.visit_core.specs.Terms.{Terms}
 use Rattle.visit_core.proofs.ReleaseLemmas.{releases}
 use Rattle.keeper.specs.declared.keeping.Keeper.{Ghosts}
 use Rattle.page_script.specs.declared.script.Script.{Script}
-use Rattle.page_script.specs.World.{Page, Turn, World, history, entry_of, event_of, turns_of, is_heard, IsLawfulPage, IsLawfulWorld, MetOldLock, ForcesOldLocks}
+use Rattle.page_script.specs.World.{Page, Turn, World, history, entry_of, event_of, turns_of, is_heard, IsLawfulPage, IsLawfulWorld, MetOldLock, PagesForceOldLocks}
 use Rattle.page_script.specs.Standing.{PagesStand, Stands, IfTold, IfTells, keeper_of}
-use Rattle.page_script.proofs.PlaceLemmas.{held-at}
+use Rattle.page_script.proofs.PlaceLemmas.{live-at}
 
 -- ---- the place of a page's last answer
 
@@ -150,7 +150,7 @@ module _ (turns : List Turn) (number : ℕ) (page : Page) (cookie : ℕ)
     }
 
 pub forces : (world : World) → IsLegal nothing 0 (history world.turns) → IsLawfulWorld world
-    → ForcesOldLocks world
+    → PagesForceOldLocks world
 forces world legal lawful before page behind t cookie place not_ended acts =
     let page_lawful = lawful before page behind place in
     met-old world.turns (length before) page cookie legal page_lawful
@@ -167,7 +167,7 @@ module _ {K : Type 0} (G : Ghosts K) (script : Script K) (world : World)
     pub lawful : IsLawfulWorld world
     lawful before page behind place =
         let at : 0 + length before ≡ length before = omega arith in
-        let there = held-at world.turns 0 (length before) script.pages.items before page behind
+        let there = live-at world.turns 0 (length before) script.pages.items before page behind
         (subst (PagesStand world.turns 0 script.pages.items) place stands.pages) at in
         record {
           lawful = subst (λ (terms : Terms). IsLawful terms page.past) there.1.terms
@@ -175,6 +175,6 @@ module _ {K : Type 0} (G : Ghosts K) (script : Script K) (world : World)
           own = there.1.own;
         }
 
-    pub forced : IfTells G script (ForcesOldLocks world)
-    forced = if-legal (history world.turns) (G.told (keeper_of script)) (ForcesOldLocks world)
+    pub forced : IfTells G script (PagesForceOldLocks world)
+    forced = if-legal (history world.turns) (G.told (keeper_of script)) (PagesForceOldLocks world)
         stands.desk.stands.stands.told_is (λ legal. forces world legal lawful)

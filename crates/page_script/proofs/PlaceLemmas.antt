@@ -50,10 +50,10 @@ turns_of-other number m turns asked apart own =
     ∙ append-nil (turns_of number turns)
 
 -- a page that asks nothing goes on standing
-PageStands-other : (turns asked : List Turn) (number m : ℕ) (held : ScriptPage) (page : Page)
+PageStands-other : (turns asked : List Turn) (number m : ℕ) (live : ScriptPage) (page : Page)
     → m ≢ number → AllByRecursion (λ (turn : Turn). turn.page ≡ m) asked
-    → PageStands turns number held page → PageStands (turns ++ asked) number held page
-PageStands-other turns asked number m held page apart own stands = record {
+    → PageStands turns number live page → PageStands (turns ++ asked) number live page
+PageStands-other turns asked number m live page apart own stands = record {
   name = stands.name;
   terms = stands.terms;
   past = stands.past;
@@ -61,64 +61,64 @@ PageStands-other turns asked number m held page apart own stands = record {
   own = stands.own ∙ ap (map event_of) (sym (turns_of-other number m turns asked apart own));
 }
 
-PagesStand-other : (turns asked : List Turn) (number m : ℕ) (helds : List ScriptPage)
+PagesStand-other : (turns asked : List Turn) (number m : ℕ) (lives : List ScriptPage)
     (pages : List Page) → m < number → AllByRecursion (λ (turn : Turn). turn.page ≡ m) asked
-    → PagesStand turns number helds pages → PagesStand (turns ++ asked) number helds pages
+    → PagesStand turns number lives pages → PagesStand (turns ++ asked) number lives pages
 PagesStand-other turns asked number m [] [] below own stand = tt
 PagesStand-other turns asked number m [] (page ∷ pages) below own stand = absurd stand
-PagesStand-other turns asked number m (held ∷ helds) [] below own stand = absurd stand
-PagesStand-other turns asked number m (held ∷ helds) (page ∷ pages) below own stand = (
-  PageStands-other turns asked number m held page (λ e. absurd (omega arith)) own stand.0,
-  PagesStand-other turns asked (number + 1) m helds pages (omega arith) own stand.1,
+PagesStand-other turns asked number m (live ∷ lives) [] below own stand = absurd stand
+PagesStand-other turns asked number m (live ∷ lives) (page ∷ pages) below own stand = (
+  PageStands-other turns asked number m live page (λ e. absurd (omega arith)) own stand.0,
+  PagesStand-other turns asked (number + 1) m lives pages (omega arith) own stand.1,
 )
 
 -- ---- places
 
-pub PagesStand-length : (turns : List Turn) (number : ℕ) (helds : List ScriptPage)
-    (pages : List Page) → PagesStand turns number helds pages → length helds ≡ length pages
+pub PagesStand-length : (turns : List Turn) (number : ℕ) (lives : List ScriptPage)
+    (pages : List Page) → PagesStand turns number lives pages → length lives ≡ length pages
 PagesStand-length turns number [] [] stand = refl
 PagesStand-length turns number [] (page ∷ pages) stand = absurd stand
-PagesStand-length turns number (held ∷ helds) [] stand = absurd stand
-PagesStand-length turns number (held ∷ helds) (page ∷ pages) stand = let rest =
-    PagesStand-length turns (number + 1) helds pages stand.1 in omega arith
+PagesStand-length turns number (live ∷ lives) [] stand = absurd stand
+PagesStand-length turns number (live ∷ lives) (page ∷ pages) stand = let rest =
+    PagesStand-length turns (number + 1) lives pages stand.1 in omega arith
 
 -- The page of the world at a place, for which the page of the script there stands; and what stands
 -- where both have changed.
-pub record IsFound (turns : List Turn) (first : ℕ) (helds : List ScriptPage) (pages : List Page)
-    (n number : ℕ) (held : ScriptPage) : Type 0 where
+pub record IsFound (turns : List Turn) (first : ℕ) (lives : List ScriptPage) (pages : List Page)
+    (n number : ℕ) (live : ScriptPage) : Type 0 where
   pub before : List Page
   pub page : Page
   pub behind : List Page
   pub place : pages ≡ before ++ page ∷ behind
   pub count : length before ≡ n
-  pub stands : PageStands turns number held page
-  pub goes_on : (held' : ScriptPage) (page' : Page) (asked : List Turn)
+  pub stands : PageStands turns number live page
+  pub goes_on : (live' : ScriptPage) (page' : Page) (asked : List Turn)
       → AllByRecursion (λ (turn : Turn). turn.page ≡ number) asked
-      → PageStands (turns ++ asked) number held' page'
-      → PagesStand (turns ++ asked) first (set helds n held') (before ++ page' ∷ behind)
+      → PageStands (turns ++ asked) number live' page'
+      → PagesStand (turns ++ asked) first (set lives n live') (before ++ page' ∷ behind)
 
-pub found : (turns : List Turn) (first : ℕ) (helds : List ScriptPage) (pages : List Page)
-    (n number : ℕ) (held : ScriptPage) → PagesStand turns first helds pages → n < length helds
-    → held ≡ get_or helds n held → first + n ≡ number
-    → IsFound turns first helds pages n number held
-found turns first [] pages n number held stand inside is at = absurd (omega arith)
-found turns first (h ∷ hs) [] n number held stand inside is at = absurd stand
-found turns first (h ∷ hs) (p ∷ ps) zero number held stand inside is at =
+pub found : (turns : List Turn) (first : ℕ) (lives : List ScriptPage) (pages : List Page)
+    (n number : ℕ) (live : ScriptPage) → PagesStand turns first lives pages → n < length lives
+    → live ≡ get_or lives n live → first + n ≡ number
+    → IsFound turns first lives pages n number live
+found turns first [] pages n number live stand inside is at = absurd (omega arith)
+found turns first (h ∷ hs) [] n number live stand inside is at = absurd stand
+found turns first (h ∷ hs) (p ∷ ps) zero number live stand inside is at =
     let here : first ≡ number = omega arith in record {
       before = [];
       page = p;
       behind = ps;
       place = refl;
       count = refl;
-      stands = subst (λ k. PageStands turns k held p) here
+      stands = subst (λ k. PageStands turns k live p) here
           (subst (λ x. PageStands turns first x p) (sym is) stand.0);
-      goes_on = λ held' page' asked own new. (
-        subst (λ k. PageStands (turns ++ asked) k held' page') (sym here) new,
+      goes_on = λ live' page' asked own new. (
+        subst (λ k. PageStands (turns ++ asked) k live' page') (sym here) new,
         PagesStand-other turns asked (first + 1) number hs ps (omega arith) own stand.1,
       );
     }
-found turns first (h ∷ hs) (p ∷ ps) (suc n) number held stand inside is at =
-    let rest = found turns (first + 1) hs ps n number held stand.1 (omega arith) is (omega arith) in
+found turns first (h ∷ hs) (p ∷ ps) (suc n) number live stand inside is at =
+    let rest = found turns (first + 1) hs ps n number live stand.1 (omega arith) is (omega arith) in
     record {
       before = p ∷ rest.before;
       page = rest.page;
@@ -126,41 +126,41 @@ found turns first (h ∷ hs) (p ∷ ps) (suc n) number held stand inside is at =
       place = ap (λ pages. p ∷ pages) rest.place;
       count = (let count = rest.count in omega arith);
       stands = rest.stands;
-      goes_on = λ held' page' asked own new. (
+      goes_on = λ live' page' asked own new. (
         PageStands-other turns asked first number h p (λ e. absurd (omega arith)) own stand.0,
-        rest.goes_on held' page' asked own new,
+        rest.goes_on live' page' asked own new,
       );
     }
 
 -- a page more, behind the others
-pub PagesStand-push : (turns : List Turn) (first number : ℕ) (helds : List ScriptPage)
-    (pages : List Page) (held : ScriptPage) (page : Page) → PagesStand turns first helds pages
-    → first + length helds ≡ number → PageStands turns number held page
-    → PagesStand turns first (helds ++ held ∷ []) (pages ++ page ∷ [])
-PagesStand-push turns first number [] [] held page stand at new =
+pub PagesStand-push : (turns : List Turn) (first number : ℕ) (lives : List ScriptPage)
+    (pages : List Page) (live : ScriptPage) (page : Page) → PagesStand turns first lives pages
+    → first + length lives ≡ number → PageStands turns number live page
+    → PagesStand turns first (lives ++ live ∷ []) (pages ++ page ∷ [])
+PagesStand-push turns first number [] [] live page stand at new =
     let here : number ≡ first = omega arith in
-    (subst (λ k. PageStands turns k held page) here new, tt)
-PagesStand-push turns first number [] (p ∷ ps) held page stand at new = absurd stand
-PagesStand-push turns first number (h ∷ hs) [] held page stand at new = absurd stand
-PagesStand-push turns first number (h ∷ hs) (p ∷ ps) held page stand at new =
-    (stand.0, PagesStand-push turns (first + 1) number hs ps held page stand.1 (omega arith) new)
+    (subst (λ k. PageStands turns k live page) here new, tt)
+PagesStand-push turns first number [] (p ∷ ps) live page stand at new = absurd stand
+PagesStand-push turns first number (h ∷ hs) [] live page stand at new = absurd stand
+PagesStand-push turns first number (h ∷ hs) (p ∷ ps) live page stand at new =
+    (stand.0, PagesStand-push turns (first + 1) number hs ps live page stand.1 (omega arith) new)
 
 -- the page of the script that stands for a page of the world
-pub held-at : (turns : List Turn) (first number : ℕ) (helds : List ScriptPage) (before : List Page)
-    (page : Page) (behind : List Page) → PagesStand turns first helds (before ++ page ∷ behind)
-    → first + length before ≡ number → (held : ScriptPage) × PageStands turns number held page
-held-at turns first number [] [] page behind stand at = absurd stand
-held-at turns first number [] (p ∷ before) page behind stand at = absurd stand
-held-at turns first number (h ∷ hs) [] page behind stand at =
+pub live-at : (turns : List Turn) (first number : ℕ) (lives : List ScriptPage) (before : List Page)
+    (page : Page) (behind : List Page) → PagesStand turns first lives (before ++ page ∷ behind)
+    → first + length before ≡ number → (live : ScriptPage) × PageStands turns number live page
+live-at turns first number [] [] page behind stand at = absurd stand
+live-at turns first number [] (p ∷ before) page behind stand at = absurd stand
+live-at turns first number (h ∷ hs) [] page behind stand at =
     let here : first ≡ number = omega arith in
     (h, subst (λ k. PageStands turns k h page) here stand.0)
-held-at turns first number (h ∷ hs) (p ∷ before) page behind stand at =
-    held-at turns (first + 1) number hs before page behind stand.1 (omega arith)
+live-at turns first number (h ∷ hs) (p ∷ before) page behind stand at =
+    live-at turns (first + 1) number hs before page behind stand.1 (omega arith)
 
 -- ---- names
 
-names-apart : (turns : List Turn) (first : ℕ) (helds : List ScriptPage) (pages : List Page)
-    (name : List ℕ) → PagesStand turns first helds pages → IsUnused helds name
+names-apart : (turns : List Turn) (first : ℕ) (lives : List ScriptPage) (pages : List Page)
+    (name : List ℕ) → PagesStand turns first lives pages → IsUnused lives name
     → AllByRecursion (λ (page : Page). page.name ≢ name) pages
 names-apart turns first [] [] name stand unused = tt
 names-apart turns first [] (p ∷ ps) name stand unused = absurd stand
@@ -168,26 +168,26 @@ names-apart turns first (h ∷ hs) [] name stand unused = absurd stand
 names-apart turns first (h ∷ hs) (p ∷ ps) name stand unused =
     (λ is. unused.0 (stand.0.name ∙ is), names-apart turns (first + 1) hs ps name stand.1 unused.1)
 
-pub unused-no_name : (turns : List Turn) (first : ℕ) (helds : List ScriptPage) (pages : List Page)
-    (name : List ℕ) → PagesStand turns first helds pages → IsUnused helds name
+pub unused-no_name : (turns : List Turn) (first : ℕ) (lives : List ScriptPage) (pages : List Page)
+    (name : List ℕ) → PagesStand turns first lives pages → IsUnused lives name
     → HasName pages name → ⊥
-unused-no_name turns first helds pages name stand unused has =
+unused-no_name turns first lives pages name stand unused has =
     All-at (λ (page : Page). page.name ≢ name) has.0 has.2 has.1
     (subst (AllByRecursion (λ (page : Page). page.name ≢ name)) has.3
-    (names-apart turns first helds pages name stand unused)) has.4
+    (names-apart turns first lives pages name stand unused)) has.4
 
-pub place-has_name : (turns : List Turn) (helds : List ScriptPage) (pages : List Page)
-    (name : List ℕ) (n : ℕ) → PagesStand turns 0 helds pages → IsIndexOf helds name n
+pub place-has_name : (turns : List Turn) (lives : List ScriptPage) (pages : List Page)
+    (name : List ℕ) (n : ℕ) → PagesStand turns 0 lives pages → IsIndexOf lives name n
     → HasName pages name
-place-has_name turns helds pages name n stand place =
+place-has_name turns lives pages name n stand place =
     let at : 0 + n ≡ n = omega arith in
-    let there = found turns 0 helds pages n n place.page stand place.inside place.there at in
+    let there = found turns 0 lives pages n n place.page stand place.inside place.there at in
     (there.before, there.page, there.behind, there.place, sym there.stands.name ∙ place.named)
 
 -- a name that no page has is that of no page of the script
-pub no_name-unused : (turns : List Turn) (first : ℕ) (helds : List ScriptPage) (pages : List Page)
-    (name : List ℕ) → PagesStand turns first helds pages → (HasName pages name → ⊥)
-    → IsUnused helds name
+pub no_name-unused : (turns : List Turn) (first : ℕ) (lives : List ScriptPage) (pages : List Page)
+    (name : List ℕ) → PagesStand turns first lives pages → (HasName pages name → ⊥)
+    → IsUnused lives name
 no_name-unused turns first [] [] name stand none = tt
 no_name-unused turns first [] (p ∷ ps) name stand none = absurd stand
 no_name-unused turns first (h ∷ hs) [] name stand none = absurd stand
@@ -205,22 +205,22 @@ get_or-same (z ∷ xs) zero x y inside = refl
 get_or-same (z ∷ xs) (suc n) x y inside = get_or-same xs n x y (omega arith)
 
 -- the page at the place of a name
-pub place-named : (helds : List ScriptPage) (name : List ℕ) (n : ℕ) (held : ScriptPage)
-    → IsIndexOf helds name n → held ≡ get_or helds n held → held.name ≡ name
-place-named helds name n held place is =
-    ap (λ (h : ScriptPage). h.name) (is ∙ get_or-same helds n held place.page place.inside
+pub place-named : (lives : List ScriptPage) (name : List ℕ) (n : ℕ) (live : ScriptPage)
+    → IsIndexOf lives name n → live ≡ get_or lives n live → live.name ≡ name
+place-named lives name n live place is =
+    ap (λ (h : ScriptPage). h.name) (is ∙ get_or-same lives n live place.page place.inside
     ∙ sym place.there) ∙ place.named
 
 -- a name at a place is in use
-unused-at : (helds : List ScriptPage) (name : List ℕ) (n : ℕ) (held : ScriptPage) → n < length helds
-    → IsUnused helds name → held ≡ get_or helds n held → held.name ≢ name
-unused-at [] name n held inside unused is = absurd (omega arith)
-unused-at (h ∷ hs) name zero held inside unused is =
+unused-at : (lives : List ScriptPage) (name : List ℕ) (n : ℕ) (live : ScriptPage) → n < length lives
+    → IsUnused lives name → live ≡ get_or lives n live → live.name ≢ name
+unused-at [] name n live inside unused is = absurd (omega arith)
+unused-at (h ∷ hs) name zero live inside unused is =
     λ e. unused.0 (ap (λ (x : ScriptPage). x.name) (sym is) ∙ e)
-unused-at (h ∷ hs) name (suc n) held inside unused is =
-    unused-at hs name n held (omega arith) unused.1 is
+unused-at (h ∷ hs) name (suc n) live inside unused is =
+    unused-at hs name n live (omega arith) unused.1 is
 
-pub place-used : (helds : List ScriptPage) (name : List ℕ) (n : ℕ) → IsIndexOf helds name n
-    → IsUnused helds name → ⊥
-place-used helds name n place unused = unused-at helds name n place.page place.inside unused
+pub place-used : (lives : List ScriptPage) (name : List ℕ) (n : ℕ) → IsIndexOf lives name n
+    → IsUnused lives name → ⊥
+place-used lives name n place unused = unused-at lives name n place.page place.inside unused
     place.there place.named

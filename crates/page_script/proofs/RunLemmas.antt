@@ -19,7 +19,7 @@ use Rattle.visit_core.specs.Terms.{Terms, EndingFits}
 use Rattle.page_script.specs.declared.line.Line.{Line}
 use Rattle.page_script.specs.declared.line.Line.TheVariants as lines
 use Rattle.page_script.specs.Lines.{LineFits}
-use Rattle.page_script.specs.World.{Page, Turn, World, Added, history, entry_of, event_of, Performs, with_events, new_page, WorldStep, Leads, IsWorldRun, turns_of, is_heard, IsLawfulWorld, ForcesOldLocks}
+use Rattle.page_script.specs.World.{Page, Turn, World, Added, history, entry_of, event_of, Performs, with_events, new_page, WorldStep, Leads, IsWorldRun, turns_of, is_heard, IsLawfulWorld, PagesForceOldLocks}
 use Rattle.page_script.proofs.StepLemmas.{turns_of-own, end-no_run, last-no_run, loss-no_run}
 use Rattle.page_script.proofs.PlaceLemmas.{All-append, All-more, turns_of-none, turns_of-other}
 use Rattle.page_script.proofs.WorldLemmas.{asked-own}
@@ -363,7 +363,7 @@ leads-turns world world' (line ∷ script) out leads =
 -- and old
 pub run-forces : (script rest : List Line) (world last : World) (out more : List ℕ)
     → AllByRecursion LineFits script → IsWorldRun script world out → Leads world rest last more
-    → IsLegal nothing 0 (history last.turns) → ForcesOldLocks world
+    → IsLegal nothing 0 (history last.turns) → PagesForceOldLocks world
 run-forces script rest world last out more fits runs leads legal =
     let grown = leads-turns world last rest more leads in
     forces world

@@ -20,7 +20,7 @@ use Rattle.visit_core.specs.Terms.{Terms}
 use Rattle.page_script.specs.declared.script_page.ScriptPage.{ScriptPage}
 use Rattle.page_script.specs.World.{Page, Turn, Added, event_of, Performs, turn_words, run_words, with_events, turns_of, is_heard}
 use Rattle.desk.specs.Standing.{DeskState}
-use Rattle.page_script.specs.Standing.{DeskStands, turn_at, PageAtDesk, PageStands, EachSteps}
+use Rattle.page_script.specs.Standing.{DeskHasTurns, turn_at, PageAtDesk, PageStands, EachSteps}
 
 -- ---- results
 
@@ -33,12 +33,17 @@ on_err (Ok a) p = tt
 on_err (Err e) p = p
 
 -- what was appended stays where nothing failed
-pub ok-undone : {A E : Type 0} (written result : Result A E) (new printed : List ℕ) (len : ℕ)
-    (P Q : Type 0) → result ≡ written → new ≡ cond (is_ok written) printed (take len printed)
-    → (new ≡ printed → P → Q) → OnOk written P → OnOk result Q
-ok-undone (Ok a) result new printed len P Q is items f p =
-    subst (λ r. OnOk r Q) (sym is) (f items p)
-ok-undone (Err e) result new printed len P Q is items f p = subst (λ r. OnOk r Q) (sym is) tt
+pub undone_ok : {A E : Type 0} (written : Result A E) (a : A) (new printed : List ℕ) (len : ℕ)
+    (P : Type 0) → Ok a ≡ written → new ≡ cond (is_ok written) printed (take len printed)
+    → OnOk written P → (new ≡ printed) × P
+undone_ok (Ok b) a new printed len P is items p = (items, p)
+undone_ok (Err e) a new printed len P is items p = absurd (cc is)
+
+-- what holds after a failure
+pub undone_err : {A E : Type 0} (written : Result A E) (e : E) (P : Type 0) → Err e ≡ written
+    → OnErr written P → P
+undone_err (Ok b) e P is p = absurd (cc is)
+undone_err (Err d) e P is p = p
 
 -- ---- what a past holds
 
@@ -135,14 +140,14 @@ at_desk page desk = record { page = page; desk = desk }
 abbrev only_words : List ℕ → Added
 only_words words = record { events = []; asked = []; words = words }
 
-module _ (CanCount : ℕ → Type 0) (t : ℕ) (held : ScriptPage)
+module _ (CanCount : ℕ → Type 0) (t : ℕ) (live : ScriptPage)
   where
     -- what is printed may be said in other words
-    pub EachSteps-prints : (held' : ScriptPage) (desk desk' : DeskState) (P Q : List ℕ → Type 0)
+    pub EachSteps-prints : (live' : ScriptPage) (desk desk' : DeskState) (P Q : List ℕ → Type 0)
         → ((words : List ℕ) → P words → Q words)
-        → EachSteps CanCount t (at_desk held desk) (at_desk held' desk') P
-        → EachSteps CanCount t (at_desk held desk) (at_desk held' desk') Q
-    EachSteps-prints held' desk desk' P Q more each number turns page stands desk_stands =
+        → EachSteps CanCount t (at_desk live desk) (at_desk live' desk') P
+        → EachSteps CanCount t (at_desk live desk) (at_desk live' desk') Q
+    EachSteps-prints live' desk desk' P Q more each number turns page stands desk_stands =
         let step = each number turns page stands desk_stands in record {
           events = step.events;
           asked = step.asked;
@@ -155,10 +160,10 @@ module _ (CanCount : ℕ → Type 0) (t : ℕ) (held : ScriptPage)
 
     -- a step that changes nothing
     pub quiet : (desk : DeskState) (action : Action) (words : List ℕ) (Prints : List ℕ → Type 0)
-        → ((past : List Event) → HasPast held.visit past → action ≡ act_of held.visit.terms past t)
+        → ((past : List Event) → HasPast live.visit past → action ≡ act_of live.visit.terms past t)
         → ((number : ℕ) (ending : Ending) (turns : List Turn)
         → Performs action t number ending turns (only_words words)) → Prints words
-        → EachSteps CanCount t (at_desk held desk) (at_desk held desk) Prints
+        → EachSteps CanCount t (at_desk live desk) (at_desk live desk) Prints
     quiet desk action words Prints act acts prints number turns page stands desk_stands = record {
       events = [];
       asked = [];
@@ -168,30 +173,30 @@ module _ (CanCount : ℕ → Type 0) (t : ℕ) (held : ScriptPage)
           (act page.past stands.past ∙ ap (λ terms. act_of terms page.past t) stands.terms)
           (acts number page.ending turns);
       page_stands =
-          subst (λ p. PageStands (turns ++ []) number held p)
+          subst (λ p. PageStands (turns ++ []) number live p)
           (ap (λ past. let p : Page = record page { past = past } in p)
           (sym (append-nil page.past)))
-          (subst (λ ts. PageStands ts number held page) (sym (append-nil turns)) stands);
-      desk_stands = subst (DeskStands CanCount desk) (sym (append-nil turns)) desk_stands;
+          (subst (λ ts. PageStands ts number live page) (sym (append-nil turns)) stands);
+      desk_stands = subst (DeskHasTurns CanCount desk) (sym (append-nil turns)) desk_stands;
       prints = prints;
     }
 
     -- a request is sent, and its reply is heard
-    pub sent : (held' : ScriptPage) (desk desk' : DeskState) (request : Request)
+    pub sent : (live' : ScriptPage) (desk desk' : DeskState) (request : Request)
         (reply : ReplyValue) (Prints : List ℕ → Type 0)
-        → held'.visit.terms ≡ held.visit.terms
-        → ((past : List Event) → HasPast held.visit past
-        → act_of held.visit.terms past t ≡ send request)
-        → ((past : List Event) (sent : Request) → HasPast held.visit past
-        → act_of held.visit.terms past t ≡ send sent
-        → HasPast held'.visit (past ++ heard t sent (Reply reply) ∷ []))
-        → held'.name ≡ held.name → held'.ending ≡ held.ending → ReplyFits reply
-        → ((number : ℕ) (turns : List Turn) → DeskStands CanCount desk turns
-        → DeskStands CanCount desk' (turns ++ turn_at number t request turns reply desk'.faults
+        → live'.visit.terms ≡ live.visit.terms
+        → ((past : List Event) → HasPast live.visit past
+        → act_of live.visit.terms past t ≡ send request)
+        → ((past : List Event) (sent : Request) → HasPast live.visit past
+        → act_of live.visit.terms past t ≡ send sent
+        → HasPast live'.visit (past ++ heard t sent (Reply reply) ∷ []))
+        → live'.name ≡ live.name → live'.ending ≡ live.ending → ReplyFits reply
+        → ((number : ℕ) (turns : List Turn) → DeskHasTurns CanCount desk turns
+        → DeskHasTurns CanCount desk' (turns ++ turn_at number t request turns reply desk'.faults
         ∷ []))
         → Prints ((ask_spelling request.ask ++ codes " : ") ++ reply_spelling reply)
-        → EachSteps CanCount t (at_desk held desk) (at_desk held' desk') Prints
-    sent held' desk desk' request reply Prints terms act hears name ending fits answers prints
+        → EachSteps CanCount t (at_desk live desk) (at_desk live' desk') Prints
+    sent live' desk desk' request reply Prints terms act hears name ending fits answers prints
         number turns page stands desk_stands = record {
           events = event_of turn ∷ [];
           asked = turn ∷ [];
@@ -229,17 +234,17 @@ module _ (CanCount : ℕ → Type 0) (t : ℕ) (held : ScriptPage)
         turn = turn_at number t request turns reply desk'.faults
 
     -- a page runs, and its visit is told how it ends
-    pub ran : (held' : ScriptPage) (desk : DeskState) (content : Option (List ℕ)) (first : Bool)
+    pub ran : (live' : ScriptPage) (desk : DeskState) (content : Option (List ℕ)) (first : Bool)
         (Prints : List ℕ → Type 0)
-        → ((past : List Event) → HasPast held.visit past
-        → run content first ≡ act_of held.visit.terms past t)
+        → ((past : List Event) → HasPast live.visit past
+        → run content first ≡ act_of live.visit.terms past t)
         → ((number : ℕ) (turns : List Turn) (page : Page) (body : Option (List ℕ)) (mark : Bool)
-        (u : ℕ) → PageStands turns number held page
+        (u : ℕ) → PageStands turns number live page
         → act_of page.terms page.past u ≡ run body mark
-        → PageStands turns number held' (with_events page (ended page.ending ∷ [])))
+        → PageStands turns number live' (with_events page (ended page.ending ∷ [])))
         → Prints (run_words content first)
-        → EachSteps CanCount t (at_desk held desk) (at_desk held' desk) Prints
-    ran held' desk content first Prints act ends prints number turns page stands desk_stands =
+        → EachSteps CanCount t (at_desk live desk) (at_desk live' desk) Prints
+    ran live' desk content first Prints act ends prints number turns page stands desk_stands =
         let runs : act_of page.terms page.past t ≡ run content first =
         sym (act page.past stands.past ∙ ap (λ terms. act_of terms page.past t) stands.terms) in
         record {
@@ -252,32 +257,32 @@ module _ (CanCount : ℕ → Type 0) (t : ℕ) (held : ScriptPage)
             words = run_words content first;
           })) (sym runs) (refl, refl, refl);
           page_stands =
-              subst (λ ts. PageStands ts number held' (with_events page (ended page.ending ∷ [])))
+              subst (λ ts. PageStands ts number live' (with_events page (ended page.ending ∷ [])))
               (sym (append-nil turns)) (ends number turns page content first t stands runs);
-          desk_stands = subst (DeskStands CanCount desk) (sym (append-nil turns)) desk_stands;
+          desk_stands = subst (DeskHasTurns CanCount desk) (sym (append-nil turns)) desk_stands;
           prints = prints;
         }
 
 -- the ending that is kept until the visit is told of it
-pub kept_ending : (held : ScriptPage) (turns : List Turn) (number : ℕ) (page : Page)
-    (content : Option (List ℕ)) (first : Bool) (t : ℕ) → PageStands turns number held page
-    → act_of page.terms page.past t ≡ run content first → held.ending ≡ Some page.ending
-kept_ending held turns number page content first t stands runs =
+pub kept_ending : (live : ScriptPage) (turns : List Turn) (number : ℕ) (page : Page)
+    (content : Option (List ℕ)) (first : Bool) (t : ℕ) → PageStands turns number live page
+    → act_of page.terms page.past t ≡ run content first → live.ending ≡ Some page.ending
+kept_ending live turns number page content first t stands runs =
     stands.ending ∙ ap (λ b. cond b None (Some page.ending))
     (runs-not_ended page.terms page.past t content first runs)
 
-pub finished : (held held' : ScriptPage) (ending : Ending) (turns : List Turn) (number : ℕ)
+pub finished : (live live' : ScriptPage) (ending : Ending) (turns : List Turn) (number : ℕ)
     (page : Page) (content : Option (List ℕ)) (first : Bool) (t : ℕ)
-    → PageStands turns number held page → act_of page.terms page.past t ≡ run content first
-    → held.ending ≡ Some ending → held'.ending ≡ None → held'.name ≡ held.name
-    → held'.visit.terms ≡ held.visit.terms → ((past : List Event) → HasPast held.visit past
-    → HasPast held'.visit (past ++ ended ending ∷ []))
-    → PageStands turns number held' (with_events page (ended page.ending ∷ []))
-finished held held' ending turns number page content first t stands runs was is name terms ends =
+    → PageStands turns number live page → act_of page.terms page.past t ≡ run content first
+    → live.ending ≡ Some ending → live'.ending ≡ None → live'.name ≡ live.name
+    → live'.visit.terms ≡ live.visit.terms → ((past : List Event) → HasPast live.visit past
+    → HasPast live'.visit (past ++ ended ending ∷ []))
+    → PageStands turns number live' (with_events page (ended page.ending ∷ []))
+finished live live' ending turns number page content first t stands runs was is name terms ends =
     record {
       name = name ∙ stands.name;
       terms = terms ∙ stands.terms;
-      past = subst (λ (e : Ending). HasPast held'.visit (page.past ++ ended e ∷ [])) same
+      past = subst (λ (e : Ending). HasPast live'.visit (page.past ++ ended e ∷ [])) same
           (ends page.past stands.past);
       ending = is ∙ ap (λ b. cond b None (Some page.ending))
           (sym (has_ended-push page.past (ended page.ending)));
@@ -287,7 +292,7 @@ finished held held' ending turns number page content first t stands runs was is 
   where
     same : ending ≡ page.ending
     same = let both : Some ending ≡ Some page.ending = sym was
-        ∙ kept_ending held turns number page content first t stands runs in cc
+        ∙ kept_ending live turns number page content first t stands runs in cc
 
 -- ---- the printed line
 

@@ -34,15 +34,15 @@ module _ {K : Type 0} (G : Ghosts K) (script script' : Script K) (world : World)
     (stands : Stands G script world)
   where
     -- a page that was named
-    pub page-taken : (line : PageLine) (held : ScriptPage) → IsUnused script.pages.items line.name
+    pub page-taken : (line : PageLine) (live : ScriptPage) → IsUnused script.pages.items line.name
         → length script.pages.items < most_pages
-        → script'.pages.items ≡ script.pages.items ++ held ∷ []
+        → script'.pages.items ≡ script.pages.items ++ live ∷ []
         → ((number : ℕ) (turns : List Turn) → turns_of number turns ≡ []
-        → PageStands turns number held (new_page script.limits line))
+        → PageStands turns number live (new_page script.limits line))
         → script'.limits ≡ script.limits → state_of G script'.desk
         ≡ state_of G script.desk
         → WorldTakes G script' world (lines.Page line) (λ printed. printed ≡ [])
-    page-taken line held unused room items new limits desk = record {
+    page-taken line live unused room items new limits desk = record {
       world' = record world { pages = world.pages ++ page ∷ [] };
       printed = [];
       step = (
@@ -57,10 +57,10 @@ module _ {K : Type 0} (G : Ghosts K) (script script' : Script K) (world : World)
       stands = record {
         limits = limits ∙ stands.limits;
         pages =
-            subst (λ helds. PagesStand world.turns 0 helds (world.pages ++ page ∷ [])) (sym items)
-            (PagesStand-push world.turns 0 (length world.pages) script.pages.items world.pages held
+            subst (λ lives. PagesStand world.turns 0 lives (world.pages ++ page ∷ [])) (sym items)
+            (PagesStand-push world.turns 0 (length world.pages) script.pages.items world.pages live
             page stands.pages (omega (arith, same))
-            (subst (λ (l : Limits). PageStands world.turns (length world.pages) held
+            (subst (λ (l : Limits). PageStands world.turns (length world.pages) live
             (new_page l line)) stands.limits (new (length world.pages) world.turns none)));
         numbered =
             All-more (λ (turn : Turn). turn.page < length world.pages)
@@ -95,7 +95,7 @@ module _ {K : Type 0} (G : Ghosts K) (script script' : Script K) (world : World)
       step = (refl, refl);
       stands = record {
         limits = is;
-        pages = subst (λ helds. PagesStand world.turns 0 helds world.pages) (sym items)
+        pages = subst (λ lives. PagesStand world.turns 0 lives world.pages) (sym items)
             stands.pages;
         numbered = stands.numbered;
         desk = rw desk stands.desk;
@@ -104,9 +104,9 @@ module _ {K : Type 0} (G : Ghosts K) (script script' : Script K) (world : World)
     }
 
     -- a step of the page at a place
-    module _ (t n : ℕ) (name : List ℕ) (held held' : ScriptPage)
-        (inside : n < length script.pages.items) (is : held ≡ get_or script.pages.items n held)
-        (named : held.name ≡ name) (items : script'.pages.items ≡ set script.pages.items n held')
+    module _ (t n : ℕ) (name : List ℕ) (live live' : ScriptPage)
+        (inside : n < length script.pages.items) (is : live ≡ get_or script.pages.items n live)
+        (named : live.name ≡ name) (items : script'.pages.items ≡ set script.pages.items n live')
         (limits : script'.limits ≡ script.limits)
       where
         -- the page of the script, with the desk of a script
@@ -116,13 +116,13 @@ module _ {K : Type 0} (G : Ghosts K) (script script' : Script K) (world : World)
         at : 0 + n ≡ n
         at = omega arith
 
-        there : IsFound world.turns 0 script.pages.items world.pages n n held
-        there = found world.turns 0 script.pages.items world.pages n n held stands.pages inside is
+        there : IsFound world.turns 0 script.pages.items world.pages n n live
+        there = found world.turns 0 script.pages.items world.pages n n live stands.pages inside is
             at
 
         step-taken : (P : List ℕ → Type 0) → Steps G.can_count t
             (record { turns = world.turns; number = n; page = there.page })
-            (at_desk held' script') (λ words. P (step_line t held.name words))
+            (at_desk live' script') (λ words. P (step_line t live.name words))
             → WorldTakes G script' world (lines.Step t name) P
         step-taken P step = record {
           world' = record world { pages = after; turns = world.turns ++ step.asked };
@@ -146,8 +146,8 @@ module _ {K : Type 0} (G : Ghosts K) (script script' : Script K) (world : World)
           stands = record {
             limits = limits ∙ stands.limits;
             pages =
-                subst (λ helds. PagesStand (world.turns ++ step.asked) 0 helds after) (sym items)
-                (there.goes_on held' (with_events there.page step.events) step.asked own
+                subst (λ lives. PagesStand (world.turns ++ step.asked) 0 lives after) (sym items)
+                (there.goes_on live' (with_events there.page step.events) step.asked own
                 step.page_stands);
             numbered =
                 subst (λ k. AllByRecursion (λ (turn : Turn). turn.page < k)
@@ -180,30 +180,30 @@ module _ {K : Type 0} (G : Ghosts K) (script script' : Script K) (world : World)
                 stands.pages in omega arith
 
         pub each-taken : (P : List ℕ → Type 0)
-            → EachSteps G.can_count t (at_desk held script) (at_desk held' script')
-            (λ words. P (step_line t held.name words))
+            → EachSteps G.can_count t (at_desk live script) (at_desk live' script')
+            (λ words. P (step_line t live.name words))
             → WorldTakes G script' world (lines.Step t name) P
         each-taken P each = step-taken P (each n world.turns there.page there.stands stands.desk)
 
         -- nothing has changed
         step-stayed : Stays G.can_count
             (record { turns = world.turns; number = n; page = there.page })
-            (at_desk held' script') → Stands G script' world
+            (at_desk live' script') → Stands G script' world
         step-stayed stays = record {
           limits = limits ∙ stands.limits;
           pages =
-              subst (λ helds. PagesStand world.turns 0 helds world.pages) (sym items)
-              (subst (PagesStand world.turns 0 (set script.pages.items n held')) (sym there.place)
-              (subst (λ ts. PagesStand ts 0 (set script.pages.items n held')
+              subst (λ lives. PagesStand world.turns 0 lives world.pages) (sym items)
+              (subst (PagesStand world.turns 0 (set script.pages.items n live')) (sym there.place)
+              (subst (λ ts. PagesStand ts 0 (set script.pages.items n live')
               (there.before ++ there.page ∷ there.behind)) (append-nil world.turns)
-              (there.goes_on held' there.page [] tt
-              (subst (λ ts. PageStands ts n held' there.page) (sym (append-nil world.turns))
+              (there.goes_on live' there.page [] tt
+              (subst (λ ts. PageStands ts n live' there.page) (sym (append-nil world.turns))
               stays.page_stands))));
           numbered = stands.numbered;
           desk = stays.desk_stands;
         }
 
-        pub may-taken : EachMayStep G.can_count t (at_desk held script) (at_desk held' script')
+        pub may-taken : EachMayStep G.can_count t (at_desk live script) (at_desk live' script')
             → Stands G script' world
             ⊎ WorldTakes G script' world (lines.Step t name) (λ printed. ⊤)
         may-taken each = elim (each n world.turns there.page there.stands stands.desk) [

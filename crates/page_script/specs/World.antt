@@ -22,7 +22,7 @@ use Rattle.visit_core.specs.declared.terms.Limits.{Limits}
 use Rattle.visit_core.specs.Acts.{Action, send, wait_until, run, over}
 use Rattle.visit_core.specs.OutcomeText.{outcome_spelling}
 use Rattle.visit_core.specs.Rule.{Event, heard, ended, lost, act_of, send_ask, ask_for, has_ended, IsLawful, MeetsOldLock}
-use Rattle.visit_core.specs.Terms.{Terms}
+use Rattle.visit_core.specs.Terms.{Terms, default_limits}
 use Rattle.page_script.specs.declared.line.Line.{Line}
 use Rattle.page_script.specs.declared.line.Line.TheVariants as lines
 use Rattle.page_script.specs.declared.line.PageLine.{PageLine}
@@ -54,11 +54,10 @@ pub record World : Type 0 where
   pub pages : List Page
   pub turns : List Turn
 
--- the world before the first line: an execution timeout of 110 seconds, a poll each half second, at
--- most 1,000 of them
+-- the world before the first line
 abbrev pub empty_world : World
 empty_world = record {
-  limits = record { execution_secs = 110; poll_ms = 500; polls = 1000 };
+  limits = default_limits;
   pages = [];
   turns = [];
 }
@@ -188,8 +187,8 @@ WorldStep world (lines.Step moment name) world' output = PageSteps world moment 
 abbrev pub Leads : World → List Line → World → List ℕ → Type 0
 Leads world [] world' output = (world' ≡ world) × (output ≡ [])
 Leads world (line ∷ script) world' output =
-    (middle : World) × (first : List ℕ) × (rest : List ℕ) × WorldStep world line middle first
-    × Leads middle script world' rest × (output ≡ first ++ rest)
+    (middle : World) × (printed : List ℕ) × (more : List ℕ) × WorldStep world line middle printed
+    × Leads middle script world' more × (output ≡ printed ++ more)
 
 -- the lines of a script lead to this world, and this is printed for them
 abbrev pub IsWorldRun : List Line → World → List ℕ → Type 0
@@ -236,8 +235,8 @@ pub record MetOldLock (turns : List Turn) (number : ℕ) (page : Page) (cookie :
       (record { cookie = cookie; seconds = met.age }) (history before) met.moment
 
 -- a page that releases a lock before its end met that lock, and it was old: a release by force
-abbrev pub ForcesOldLocks : World → Type 0
-ForcesOldLocks world = (before : List Page) (page : Page) (behind : List Page) (t cookie : ℕ)
+abbrev pub PagesForceOldLocks : World → Type 0
+PagesForceOldLocks world = (before : List Page) (page : Page) (behind : List Page) (t cookie : ℕ)
     → world.pages ≡ before ++ page ∷ behind
     → has_ended page.past ≡ false → act_of page.terms page.past t
     ≡ send_ask page.terms (Release cookie) → MetOldLock world.turns (length before) page cookie

@@ -6,7 +6,7 @@ ghost use Rattle.plain_words.specs.Words.{HasNo};
 ghost use Rattle.session_machine.specs.History.{nothing, IsLegal};
 ghost use Rattle.page_script.specs.declared.line.Line.{Line};
 ghost use Rattle.page_script.specs.Lines.{IsLine, LineFits};
-ghost use Rattle.page_script.specs.World.{World, history, WorldStep, Leads, IsWorldRun, IsLawfulWorld, ForcesOldLocks};
+ghost use Rattle.page_script.specs.World.{World, history, WorldStep, Leads, IsWorldRun, IsLawfulWorld, PagesForceOldLocks};
 
 /// A text spells at most one line, and none where it holds a line feed.
 pub fn one_line()
@@ -31,5 +31,5 @@ pub fn pages_keep_their_rule()
     ensures forced { (script rest : List Line) (world last : World) (output more : List ℕ)
         → AllByRecursion LineFits script → IsWorldRun script world output
         → Leads world rest last more → IsLegal nothing 0 (history last.turns)
-        → ForcesOldLocks world }
+        → PagesForceOldLocks world }
 {}

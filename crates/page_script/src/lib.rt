@@ -2,11 +2,11 @@
 //! where many pages visit one state server by a schedule.
 #![tactic(auto)]
 
-mod answering;
 mod laws;
 mod line;
 mod name;
 mod page;
+mod page_request;
 mod parts;
 mod reading;
 mod script;

@@ -5,11 +5,11 @@ ghost use Rattle.visit_core.specs.declared.terms.Need.{Need};
 ghost use Rattle.page_script.specs.Lines.{ending_words};
 ghost use Rattle.page_script.specs.Parts.{IsEnding, IsKey, IsPage, IsPageHead, IsSave};
 
-use crate::parts::{behind, read_need, read_number_then};
+use crate::parts::{read_need, read_number_then};
 use crate::{Name, PageLine};
 use asp_base::{Bytes, NoMemory};
 use asp_messages::{MOST_BODY, MOST_KEY, MOST_MINUTES};
-use plain_words::{read_byte_string, split_word};
+use plain_words::{read_byte_string, split_word, strip};
 use std::alloc::Global;
 use visit_core::{Ending, Need};
 
@@ -56,7 +56,7 @@ fn read_key(alloc: Global, word: &[u8]) -> Result<Option<Bytes>, NoMemory>
 fn read_save(alloc: Global, text: &[u8]) -> Result<Option<(u64, Bytes)>, NoMemory>
     ensures { IfOk result (ReadsAs (IsSave text.now)) }
 {
-    let Some(words) = behind(text, b"save ") else {
+    let Some(words) = strip(text, b"save ") else {
         return Ok(None);
     };
     let Some((minutes, body)) = read_number_then(words, MOST_MINUTES) else {

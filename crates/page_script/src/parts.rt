@@ -1,20 +1,11 @@
 //! The parts that lines have in common.
-ghost use Rattle.std.specs.Prelude.{◌≡◌, ◌≢◌, ◌++◌, ℕ, List, MatchOption};
+ghost use Rattle.std.specs.Prelude.{◌≡◌, ℕ, List, MatchOption};
 ghost use Rattle.plain_words.specs.Words.{ReadsAs};
 ghost use Rattle.page_script.specs.Lines.{need_word};
 ghost use Rattle.page_script.specs.Parts.{IsNumberThen};
 
 use plain_words::{read_plain_number, split_word};
 use visit_core::Need;
-
-/// What stands behind the front that the text begins with.
-pub fn behind<'a>(text: &'a [u8], front: &[u8]) -> Option<&'a [u8]>
-    ensures { MatchOption result
-        ((rest : List ℕ) → text.now ≢ front.now ++ rest)
-        (λ rest. text.now ≡ front.now ++ rest.now) }
-{
-    text.strip_prefix(front)
-}
 
 /// A number of at most `max` with a space behind it, and the text behind that.
 pub fn read_number_then(text: &[u8], max: u64) -> Option<(u64, &[u8])>

@@ -7,10 +7,10 @@ ghost use Rattle.page_script.specs.Parts.{IsLimits, IsStep};
 
 use crate::line::MOST_LINE;
 use crate::page::read_page;
-use crate::parts::{behind, read_number_then};
+use crate::parts::read_number_then;
 use crate::{Line, Name};
 use asp_base::{LAST_MOMENT, NoMemory};
-use plain_words::read_plain_number;
+use plain_words::{read_plain_number, strip};
 use std::alloc::Global;
 use visit_core::{Limits, MOST_EXECUTION_SECS, MOST_POLL_MS, MOST_POLLS, limits_fit};
 
@@ -49,13 +49,13 @@ pub fn read_line(alloc: Global, text: &[u8]) -> Result<Option<Line>, NoMemory>
     if text.len() > MOST_LINE {
         return Ok(None);
     }
-    if let Some(words) = behind(text, b"limits ") {
+    if let Some(words) = strip(text, b"limits ") {
         return Ok(read_limits(words).map(Line::Limits));
     }
-    if let Some(words) = behind(text, b"page ") {
+    if let Some(words) = strip(text, b"page ") {
         return Ok(read_page(alloc, words)?.map(Line::Page));
     }
-    if let Some(words) = behind(text, b"step ") {
+    if let Some(words) = strip(text, b"step ") {
         return Ok(read_step(words).map(|(moment, name)| Line::Step { moment, name }));
     }
     Ok(None)

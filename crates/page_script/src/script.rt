@@ -6,7 +6,7 @@ ghost use Rattle.page_script.specs.Places.{IsUnused, IsIndexOf};
 use crate::script_page::ScriptPage;
 use crate::{Line, Name, PageLine, read_line};
 use asp_base::NoMemory;
-use asp_messages::MOST_COOKIE;
+use asp_messages::{MOST_COOKIE, or_undo};
 use desk::Desk;
 use keeper::Keeper;
 use std::alloc::Global;
@@ -67,15 +67,16 @@ fn push_page(pages: &mut Vec<ScriptPage>, page: ScriptPage) -> Result<(), NoMemo
 }
 
 impl<K: Keeper> Script<K> {
-    ghost use Rattle.std.specs.Prelude.{◌≡◌, ◌⊎◌, ◌≤◌, ◌^◌, ℕ, List, [], ◌∷◌, ◌++◌, ⊤};
+    ghost use Rattle.std.specs.Prelude.{◌≡◌, ◌≤◌, ◌^◌, []};
     ghost use Rattle.std.specs.List.{AllByRecursion};
     ghost use Rattle.keeper.specs.Items.{IsEmptyTold};
     ghost use Rattle.session_machine.specs.History.{nothing};
     ghost use Rattle.shard_core.specs.Standing.{StandsFor};
     ghost use Rattle.page_script.specs.declared.line.Line.{Line};
-    ghost use Rattle.page_script.specs.Lines.{IsLine, LineFits, PageFits};
-    ghost use Rattle.page_script.specs.World.{World, empty_world, history, MayStandNext, IsLawfulWorld, ForcesOldLocks};
-    ghost use Rattle.page_script.specs.Standing.{Stands, WorldTakes, WorldTakesText, IfTold, IfTells, IsOver, keeper_of};
+    ghost use Rattle.page_script.specs.Lines.{LineFits, PageFits};
+    ghost use Rattle.page_script.specs.World.{empty_world, history, IsLawfulWorld, PagesForceOldLocks};
+    ghost use Rattle.page_script.specs.Standing.{Stands, IsAppended, IfTold, IfTells, IsOver, keeper_of};
+    ghost use Rattle.page_script.specs.Standing.{EachWorld, EachWorldStays, EachWorldTakes, EachWorldMayTake, NoWorldTakes, EachWorldTakesText, EachWorldMayTakeText, NoWorldTakesText};
 
     /// A script with no pages over a keeper with no items, whose cookies begin at 1. It takes no
     /// memory.
@@ -98,17 +99,13 @@ impl<K: Keeper> Script<K> {
     /// A new page.
     fn add_page(&mut self, line: PageLine) -> LineEnd
         requires { PageFits line }
-        ensures done { result ≡ LineEnd.Done → (world : World)
-            → Stands ⟦<K as Keeper>⟧ self.old world
-            → WorldTakes ⟦<K as Keeper>⟧ self.new world (Line.Page line)
-            (λ printed. printed ≡ []) }
-        ensures not_a_line { result ≡ LineEnd.NotALine → (world : World)
-            → Stands ⟦<K as Keeper>⟧ self.old world → MayStandNext world (Line.Page line)
-            → ⊥ }
+        ensures done { result ≡ LineEnd.Done → EachWorldTakes ⟦<K as Keeper>⟧ self.old self.new
+            (Line.Page line) (λ printed. printed ≡ []) }
+        ensures not_a_line { result ≡ LineEnd.NotALine
+            → NoWorldTakes ⟦<K as Keeper>⟧ self.old (Line.Page line) }
         ensures unchanged { result ≡ LineEnd.NotALine → self.new ≡ self.old }
-        ensures no_memory { result ≡ LineEnd.NoMemory → (world : World)
-            → Stands ⟦<K as Keeper>⟧ self.old world
-            → Stands ⟦<K as Keeper>⟧ self.new world }
+        ensures no_memory { result ≡ LineEnd.NoMemory
+            → EachWorldStays ⟦<K as Keeper>⟧ self.old self.new }
         ensures is_over { result ≡ LineEnd.NoMemory → IsOver self.new }
         ensures goes_on { result ≡ LineEnd.Done → IsOver self.new → IsOver self.old }
         ensures keeper { keeper_of self.new ≡ keeper_of self.old }
@@ -129,20 +126,13 @@ impl<K: Keeper> Script<K> {
     /// One step of the page of this name.
     fn step(&mut self, t: u64, name: Name, out: &mut Vec<u8>) -> LineEnd
         requires { t ≤ 2 ^ 62 }
-        ensures done { result ≡ LineEnd.Done → (world : World)
-            → Stands ⟦<K as Keeper>⟧ self.old world
-            → WorldTakes ⟦<K as Keeper>⟧ self.new world (Line.Step t name)
-            (λ printed. out.new.items ≡ out.old.items ++ printed) }
-        ensures not_a_line { result ≡ LineEnd.NotALine → (world : World)
-            → Stands ⟦<K as Keeper>⟧ self.old world
-            → MayStandNext world (Line.Step t name)
-            → ⊥ }
+        ensures done { result ≡ LineEnd.Done → EachWorldTakes ⟦<K as Keeper>⟧ self.old self.new
+            (Line.Step t name) (IsAppended out.old.items out.new.items) }
+        ensures not_a_line { result ≡ LineEnd.NotALine
+            → NoWorldTakes ⟦<K as Keeper>⟧ self.old (Line.Step t name) }
         ensures unchanged { result ≡ LineEnd.NotALine → self.new ≡ self.old }
-        ensures no_memory { result ≡ LineEnd.NoMemory → (world : World)
-            → Stands ⟦<K as Keeper>⟧ self.old world
-            → Stands ⟦<K as Keeper>⟧ self.new world
-            ⊎ WorldTakes ⟦<K as Keeper>⟧ self.new world (Line.Step t name)
-            (λ printed. ⊤) }
+        ensures no_memory { result ≡ LineEnd.NoMemory
+            → EachWorldMayTake ⟦<K as Keeper>⟧ self.old self.new (Line.Step t name) }
         ensures is_over { result ≡ LineEnd.NoMemory → IsOver self.new }
         ensures goes_on { result ≡ LineEnd.Done → IsOver self.new → IsOver self.old }
         ensures same { (result ≡ LineEnd.Done → ⊥) → out.new.items ≡ out.old.items }
@@ -151,7 +141,9 @@ impl<K: Keeper> Script<K> {
         let Some(place) = place_of(&self.pages, &name) else {
             return LineEnd::NotALine;
         };
-        match self.pages[place].step(self.alloc, &mut self.desk, t, out) {
+        let len = out.len();
+        let written = self.pages[place].step(self.alloc, &mut self.desk, t, out);
+        match or_undo(written, out, len) {
             Ok(()) => LineEnd::Done,
             Err(NoMemory) => {
                 self.is_over = true;
@@ -163,17 +155,13 @@ impl<K: Keeper> Script<K> {
     /// One line.
     fn run(&mut self, line: Line, out: &mut Vec<u8>) -> LineEnd
         requires { LineFits line }
-        ensures done { result ≡ LineEnd.Done → (world : World)
-            → Stands ⟦<K as Keeper>⟧ self.old world
-            → WorldTakes ⟦<K as Keeper>⟧ self.new world line
-            (λ printed. out.new.items ≡ out.old.items ++ printed) }
-        ensures not_a_line { result ≡ LineEnd.NotALine → (world : World)
-            → Stands ⟦<K as Keeper>⟧ self.old world → MayStandNext world line → ⊥ }
+        ensures done { result ≡ LineEnd.Done → EachWorldTakes ⟦<K as Keeper>⟧ self.old self.new
+            line (IsAppended out.old.items out.new.items) }
+        ensures not_a_line { result ≡ LineEnd.NotALine
+            → NoWorldTakes ⟦<K as Keeper>⟧ self.old line }
         ensures unchanged { result ≡ LineEnd.NotALine → self.new ≡ self.old }
-        ensures no_memory { result ≡ LineEnd.NoMemory → (world : World)
-            → Stands ⟦<K as Keeper>⟧ self.old world
-            → Stands ⟦<K as Keeper>⟧ self.new world
-            ⊎ WorldTakes ⟦<K as Keeper>⟧ self.new world line (λ printed. ⊤) }
+        ensures no_memory { result ≡ LineEnd.NoMemory
+            → EachWorldMayTake ⟦<K as Keeper>⟧ self.old self.new line }
         ensures is_over { result ≡ LineEnd.NoMemory → IsOver self.new }
         ensures goes_on { result ≡ LineEnd.Done → IsOver self.new → IsOver self.old }
         ensures same { (result ≡ LineEnd.Done → ⊥) → out.new.items ≡ out.old.items }
@@ -194,33 +182,27 @@ impl<K: Keeper> Script<K> {
     pub fn line(&mut self, text: &[u8], out: &mut Vec<u8>) -> LineEnd
         // Each world that the script stands for takes the line, and what is printed for it was
         // appended.
-        ensures done { result ≡ LineEnd.Done → (world : World)
-            → Stands ⟦<K as Keeper>⟧ self.old world
-            → WorldTakesText ⟦<K as Keeper>⟧ self.new world text.now
-            (λ printed. out.new.items ≡ out.old.items ++ printed) }
+        ensures done { result ≡ LineEnd.Done → EachWorldTakesText ⟦<K as Keeper>⟧ self.old
+            self.new text.now (IsAppended out.old.items out.new.items) }
         ensures goes_on { result ≡ LineEnd.Done → IsOver self.new → ⊥ }
 
         // In no world that the script stands for may such a line follow; nothing changed.
-        ensures not_a_line { result ≡ LineEnd.NotALine → (world : World) (line : Line)
-            → Stands ⟦<K as Keeper>⟧ self.old world → IsLine text.now line
-            → MayStandNext world line → ⊥ }
+        ensures not_a_line { result ≡ LineEnd.NotALine
+            → NoWorldTakesText ⟦<K as Keeper>⟧ self.old text.now }
         ensures unchanged { result ≡ LineEnd.NotALine → self.new ≡ self.old }
 
         // For want of memory each world stayed, or took the line without a print.
-        ensures no_memory { result ≡ LineEnd.NoMemory → (world : World)
-            → Stands ⟦<K as Keeper>⟧ self.old world
-            → Stands ⟦<K as Keeper>⟧ self.new world
-            ⊎ WorldTakesText ⟦<K as Keeper>⟧ self.new world text.now (λ printed. ⊤) }
+        ensures no_memory { result ≡ LineEnd.NoMemory
+            → EachWorldMayTakeText ⟦<K as Keeper>⟧ self.old self.new text.now }
         ensures is_over { result ≡ LineEnd.NoMemory → IsOver self.new }
         ensures stays_over { IsOver self.old → (result ≡ LineEnd.NoMemory) × (self.new ≡ self.old) }
         ensures same { (result ≡ LineEnd.Done → ⊥) → out.new.items ≡ out.old.items }
 
         // Each page follows the rule of its visit over its own past, and releases by force only a
         // lock that is in force and old.
-        ensures lawful { (world : World) → Stands ⟦<K as Keeper>⟧ self.old world
-            → IsLawfulWorld world }
-        ensures forced { (world : World) → Stands ⟦<K as Keeper>⟧ self.old world
-            → IfTells ⟦<K as Keeper>⟧ self.old (ForcesOldLocks world) }
+        ensures lawful { EachWorld ⟦<K as Keeper>⟧ self.old IsLawfulWorld }
+        ensures forced { EachWorld ⟦<K as Keeper>⟧ self.old
+            (λ world. IfTells ⟦<K as Keeper>⟧ self.old (PagesForceOldLocks world)) }
         ensures floor { K.floor (keeper_of self.new) ≡ K.floor (keeper_of self.old) }
     {
         if self.is_over {
@@ -240,14 +222,13 @@ impl<K: Keeper> Script<K> {
     /// requests.
     pub fn into_keeper(self) -> K
         ensures keeper { result ≡ keeper_of self }
-        ensures history { (world : World) → Stands ⟦<K as Keeper>⟧ self world
-            → StandsFor nothing 0 (history world.turns) (K.told result) (K.count result) }
-        ensures counts { (world : World) → Stands ⟦<K as Keeper>⟧ self world
-            → AllByRecursion (λ e. K.can_count e.faults) (history world.turns) }
-        ensures lawful { (world : World) → Stands ⟦<K as Keeper>⟧ self world
-            → IsLawfulWorld world }
-        ensures forced { (world : World) → Stands ⟦<K as Keeper>⟧ self world
-            → IfTold (K.told result) (ForcesOldLocks world) }
+        ensures history { EachWorld ⟦<K as Keeper>⟧ self (λ world.
+            StandsFor nothing 0 (history world.turns) (K.told result) (K.count result)) }
+        ensures counts { EachWorld ⟦<K as Keeper>⟧ self (λ world.
+            AllByRecursion (λ e. K.can_count e.faults) (history world.turns)) }
+        ensures lawful { EachWorld ⟦<K as Keeper>⟧ self IsLawfulWorld }
+        ensures forced { EachWorld ⟦<K as Keeper>⟧ self
+            (λ world. IfTold (K.told result) (PagesForceOldLocks world)) }
     {
         self.desk.into_keeper()
     }

@@ -3,11 +3,11 @@ ghost use Rattle.std.specs.Prelude.{IfSome};
 ghost use Rattle.visit_core.specs.Terms.{EndingFits};
 ghost use Rattle.page_script.specs.Endings.{ending_fits-prop};
 
-use crate::answering::answer;
+use crate::page_request::answer;
 use crate::text::{push_ask, push_over, push_reply, push_run, push_start, push_wait};
 use crate::{Name, PageLine};
 use asp_base::NoMemory;
-use asp_messages::{Request, or_undo};
+use asp_messages::Request;
 use desk::Desk;
 use keeper::Keeper;
 use std::alloc::Global;
@@ -24,16 +24,14 @@ pub struct ScriptPage {
 }
 
 impl ScriptPage {
-    ghost use Rattle.std.specs.Prelude.{◌≡◌, ◌≤◌, ◌^◌, ℕ, List, [], ◌∷◌, ◌++◌, Bool, Option, OnOk, OnErr};
+    ghost use Rattle.std.specs.Prelude.{◌≡◌, ◌≤◌, ◌^◌, ℕ, List, [], ◌∷◌, ◌++◌, OnOk, OnErr};
     ghost use Rattle.asp_messages.specs.Appending.{Extends};
     ghost use Rattle.asp_messages.specs.Ranges.{RequestFits};
-    ghost use Rattle.visit_core.specs.Acts.{send, run};
-    ghost use Rattle.visit_core.specs.Rule.{act_of, ended, Event};
-    ghost use Rattle.visit_core.specs.Stages.{HasPast, Sends, Runs};
+    ghost use Rattle.visit_core.specs.Stages.{Sends, Runs};
     ghost use Rattle.visit_core.specs.Terms.{LimitsFit};
     ghost use Rattle.page_script.specs.Lines.{PageFits};
-    ghost use Rattle.page_script.specs.World.{Page, Turn, new_page, turns_of, step_line, with_events};
-    ghost use Rattle.page_script.specs.Standing.{PageStands, EachStepsAt, EachMayStepAt};
+    ghost use Rattle.page_script.specs.World.{Turn, new_page, turns_of, step_line};
+    ghost use Rattle.page_script.specs.Standing.{PageStands, WillSend, EachStepsAt, EachMayStepAt, EachHasEnded, IsAppended};
 
     /// A page whose visit has not begun.
     pub fn new(limits: Limits, line: PageLine) -> ScriptPage
@@ -60,11 +58,10 @@ impl ScriptPage {
         requires moment { t ≤ 2 ^ 62 }
         requires request { RequestFits request }
         requires sends { Sends self.old.visit t }
-        requires acts { (past : List Event) → HasPast self.old.visit past
-            → act_of self.old.visit.terms past t ≡ send request }
+        requires will_send { WillSend self.old.visit t request }
         ensures ok { OnOk result (EachStepsAt ⟦<K as Keeper>⟧ t self.old desk.old
             self.new desk.new
-            (λ words. out.new.items ≡ out.old.items ++ (words ++ 10 ∷ []))) }
+            (λ words. IsAppended out.old.items out.new.items (words ++ 10 ∷ []))) }
         ensures err { OnErr result (EachMayStepAt ⟦<K as Keeper>⟧ t self.old desk.old
             self.new desk.new) }
         ensures extends { OnErr result (Extends out.old.items out.new.items) }
@@ -80,18 +77,17 @@ impl ScriptPage {
     /// Tells the visit, which runs, how the page ends, once.
     fn finish(&mut self)
         requires runs { Runs self.old.visit }
-        ensures { (number : ℕ) (turns : List Turn) (page : Page) (content : Option (List ℕ))
-            (first : Bool) (t : ℕ) → PageStands turns number self.old page
-            → act_of page.terms page.past t ≡ run content first
-            → PageStands turns number self.new (with_events page (ended page.ending ∷ [])) }
+        ensures { EachHasEnded self.old self.new }
     {
         if let Some(ending) = self.ending.take() {
             self.visit.finish(ending);
         }
     }
 
-    /// The step of `step`, whose line is appended; where that fails, maybe in part.
-    fn print_step<K: Keeper>(
+    /// One step at the moment `t`, in milliseconds: each page of the world that this one stands for
+    /// takes it, and its line is appended. After `NoMemory` a front of the line may stand in the
+    /// buffer, and the step was made or not.
+    pub fn step<K: Keeper>(
         &mut self,
         alloc: Global,
         desk: &mut Desk<K>,
@@ -101,7 +97,7 @@ impl ScriptPage {
         requires { t ≤ 2 ^ 62 }
         ensures ok { OnOk result (EachStepsAt ⟦<K as Keeper>⟧ t self.old desk.old
             self.new desk.new
-            (λ words. out.new.items ≡ out.old.items ++ step_line t self.old.name words)) }
+            (λ words. IsAppended out.old.items out.new.items (step_line t self.old.name words))) }
         ensures err { OnErr result (EachMayStepAt ⟦<K as Keeper>⟧ t self.old desk.old
             self.new desk.new) }
         ensures extends { OnErr result (Extends out.old.items out.new.items) }
@@ -121,29 +117,5 @@ impl ScriptPage {
             }
             Act::Over(outcome) => push_over(out, outcome),
         }
-    }
-
-    /// One step at the moment `t`, in milliseconds: each page of the world that this one stands for
-    /// takes it, and its line is appended. After `NoMemory` the buffer holds what it held, and the
-    /// step was made or not.
-    pub fn step<K: Keeper>(
-        &mut self,
-        alloc: Global,
-        desk: &mut Desk<K>,
-        t: u64,
-        out: &mut Vec<u8>,
-    ) -> Result<(), NoMemory>
-        requires { t ≤ 2 ^ 62 }
-        ensures ok { OnOk result (EachStepsAt ⟦<K as Keeper>⟧ t self.old desk.old
-            self.new desk.new
-            (λ words. out.new.items ≡ out.old.items ++ step_line t self.old.name words)) }
-        ensures err { OnErr result (EachMayStepAt ⟦<K as Keeper>⟧ t self.old desk.old
-            self.new desk.new) }
-        ensures same { OnErr result (out.new.items ≡ out.old.items) }
-        ensures floor { K.floor desk.new.keeper ≡ K.floor desk.old.keeper }
-    {
-        let len = out.len();
-        let written = self.print_step(alloc, desk, t, out);
-        or_undo(written, out, len)
     }
 }

@@ -1,5 +1,5 @@
 use Rattle.std.proofs.Common.{sym, subst}
-use Rattle.page_script.specs.World.{ForcesOldLocks}
+use Rattle.page_script.specs.World.{PagesForceOldLocks}
 use Rattle.page_script.specs.Standing.{IfTold}
 use Rattle.page_script.proofs.LawfulLemmas.{lawful, forced}
 use Rattle.page_script.proofs.script.Script.into_keeper.Goals as goal
@@ -9,5 +9,5 @@ returns-clause-lawful g c world stands = lawful g.K.Keeper c.args.self world sta
 
 pub returns-clause-forced : goal.returns-clause-forced
 returns-clause-forced g c world stands =
-    subst (λ k. IfTold (g.K.Keeper.told k) (ForcesOldLocks world)) (sym c.into_keeper.ensures)
+    subst (λ k. IfTold (g.K.Keeper.told k) (PagesForceOldLocks world)) (sym c.into_keeper.ensures)
     (forced g.K.Keeper c.args.self world stands)

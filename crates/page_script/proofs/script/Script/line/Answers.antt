@@ -5,7 +5,7 @@ use Rattle.page_script.proofs.LawfulLemmas.{lawful, forced}
 use Rattle.page_script.proofs.script.Script.line.Goals as goal
 
 pub returns-in-Ok-Some-clause-not_a_line : goal.returns-in-Ok-Some-clause-not_a_line
-returns-in-Ok-Some-clause-not_a_line g c end world line stands is_line follows =
+returns-in-Ok-Some-clause-not_a_line g c end line is_line world stands follows =
     let read = rw c.in-Ok-Some.field-0-is at c.in-Ok-Some.ensures in
     let same : line ≡ c.in-Ok-Some.line = one_line_each c.args.text.now line c.in-Ok-Some.line
     is_line read.line in

@@ -9,7 +9,7 @@ returns-clause-ok g c =
     (λ is. sent g.K.Keeper.can_count c.args.t c.args.self.now _
     (state_of g.K.Keeper c.args.desk.now)
     (state_of g.K.Keeper c.answer-reply.new.desk) c.args.request
-    c.answer-reply.result _ c.heard.ensures.terms c.requires.acts
+    c.answer-reply.result _ c.heard.ensures.terms c.requires.will_send
     c.heard.ensures.past refl refl c.answer-reply.ensures.fits c.answer-reply.ensures.answers
     (turn-joined c.args.out.now.items c.push_ask.new.out.items c.push_reply-written.new.out.items _
     _ c.in_ok-push_ask.ensures.ok is))
@@ -22,7 +22,7 @@ returns-clause-err g c =
     (sent g.K.Keeper.can_count c.args.t c.args.self.now _
     (state_of g.K.Keeper c.args.desk.now)
     (state_of g.K.Keeper c.answer-reply.new.desk) c.args.request
-    c.answer-reply.result _ c.heard.ensures.terms c.requires.acts
+    c.answer-reply.result _ c.heard.ensures.terms c.requires.will_send
     c.heard.ensures.past refl refl c.answer-reply.ensures.fits c.answer-reply.ensures.answers tt
     number
     turns page stands desk_stands))

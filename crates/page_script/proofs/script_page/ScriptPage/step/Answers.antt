@@ -1,14 +1,43 @@
-use Rattle.std.proofs.Common.{◌∙◌}
-use Rattle.page_script.proofs.StepLemmas.{ok-undone, EachSteps-prints}
+use Rattle.std.proofs.Common.{refl}
+use Rattle.page_script.proofs.StepLemmas.{on_ok, EachSteps-prints, quiet, ran, line-joined}
 use Rattle.desk.specs.Standing.{state_of}
 use Rattle.page_script.proofs.script_page.ScriptPage.step.Goals as goal
 
-pub returns-clause-ok : goal.returns-clause-ok
-returns-clause-ok g c =
-    ok-undone c.print_step-written.result c.or_undo.result c.or_undo.new.out.items
-    c.print_step-written.new.out.items _ _ _ c.or_undo.ensures.result c.or_undo.ensures.items
-    (λ kept each. EachSteps-prints g.K.Keeper.can_count c.args.t c.args.self.now
-    c.print_step-written.new.self (state_of g.K.Keeper c.args.desk.now)
-    (state_of g.K.Keeper c.print_step-written.new.desk) _ _
-    (λ words is. kept ∙ is) each)
-    c.print_step-written.ensures.ok
+pub returns-in_ok-request-in-Send-clause-ok : goal.returns-in_ok-request-in-Send-clause-ok
+returns-in_ok-request-in-Send-clause-ok g c =
+    on_ok c.send.result
+    (EachSteps-prints g.K.Keeper.can_count c.args.t c.args.self.now c.send.new.self
+    (state_of g.K.Keeper c.args.desk.now)
+    (state_of g.K.Keeper c.send.new.desk) _ _
+    (λ words more. line-joined c.args.out.now.items c.push_start.new.out.items c.send.new.out.items
+    _ words (rw c.as_slice.ensures.letters at c.in_ok-push_start.ensures.ok) more))
+    c.send.ensures.ok
+
+pub returns-in-WaitUntil-clause-ok : goal.returns-in-WaitUntil-clause-ok
+returns-in-WaitUntil-clause-ok g c =
+    on_ok c.push_wait.result
+    (λ more. quiet g.K.Keeper.can_count c.args.t c.args.self.now
+    (state_of g.K.Keeper c.args.desk.now) _ _ _ c.in-WaitUntil.ensures.act
+    (λ number ending turns. (refl, refl, refl))
+    (line-joined c.args.out.now.items c.push_start.new.out.items c.push_wait.new.out.items _ _
+    (rw c.as_slice.ensures.letters at c.in_ok-push_start.ensures.ok) more))
+    c.push_wait.ensures.ok
+
+pub returns-in_ok-push_run-in-Run-clause-ok : goal.returns-in_ok-push_run-in-Run-clause-ok
+returns-in_ok-push_run-in-Run-clause-ok g c =
+    ran g.K.Keeper.can_count c.args.t c.args.self.now c.finish.new.self
+    (state_of g.K.Keeper c.args.desk.now) _ _ _ c.in-Run.ensures.act
+    c.finish.ensures
+    (line-joined c.args.out.now.items c.push_start.new.out.items c.push_run.new.out.items _ _
+    (rw c.as_slice.ensures.letters at c.in_ok-push_start.ensures.ok)
+    c.in_ok-push_run-in-Run.ensures.ok)
+
+pub returns-in-Over-clause-ok : goal.returns-in-Over-clause-ok
+returns-in-Over-clause-ok g c =
+    on_ok c.push_over.result
+    (λ more. quiet g.K.Keeper.can_count c.args.t c.args.self.now
+    (state_of g.K.Keeper c.args.desk.now) _ _ _ c.in-Over.ensures.act
+    (λ number ending turns. (refl, refl, refl))
+    (line-joined c.args.out.now.items c.push_start.new.out.items c.push_over.new.out.items _ _
+    (rw c.as_slice.ensures.letters at c.in_ok-push_start.ensures.ok) more))
+    c.push_over.ensures.ok

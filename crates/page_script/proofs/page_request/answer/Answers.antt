@@ -2,12 +2,12 @@ use Rattle.std.proofs.Common.{arith}
 use Rattle.session_machine.specs.History.{nothing}
 use Rattle.desk.specs.Standing.{state_of}
 use Rattle.page_script.specs.World.{history}
-use Rattle.page_script.proofs.DeskLemmas.{DeskStands-push}
-use Rattle.page_script.proofs.answering.answer.Goals as goal
+use Rattle.page_script.proofs.DeskLemmas.{DeskHasTurns-push}
+use Rattle.page_script.proofs.page_request.answer.Goals as goal
 
 pub returns-clause-answers : goal.returns-clause-answers
 returns-clause-answers g c number turns stands =
-    DeskStands-push g.K.Keeper.can_count (state_of g.K.Keeper c.args.desk.now)
+    DeskHasTurns-push g.K.Keeper.can_count (state_of g.K.Keeper c.args.desk.now)
     (state_of g.K.Keeper c.act.new.self) turns number c.args.t
     c.act.result.drawn c.args.request c.act.result.reply stands c.act.ensures.last
     (λ so_far. c.act.ensures.stands 1 0 nothing 0 (history turns) (omega arith) so_far)
