@@ -106,13 +106,13 @@ wrong_left : (world from to : World) (rest more : List ℕ) (script : List Line)
     → BeginsWrong world rest → rest ++ more ≡ script_text script
     → AreLines script → Leads from script to output → names world ≡ names from → ⊥
 wrong_left world from to rest more [] output wrong is lines leads same =
-    some_front wrong.text wrong.behind more (ap (λ t. t ++ more) (sym wrong.first.joined) ∙ is)
+    some_front wrong.text wrong.behind more (ap (λ t. t ++ more) (sym wrong.split.joined) ∙ is)
 wrong_left world from to rest more (line ∷ script) output wrong is lines leads same =
     let parts =
     split_one 10 wrong.text (wrong.behind ++ more) (line_text line) (script_text script)
-    wrong.first.first (line_feed_nowhere (line_text line) line lines.0)
+    wrong.split.first (line_feed_nowhere (line_text line) line lines.0)
     (sym (append_assoc wrong.text (10 ∷ wrong.behind) more)
-    ∙ ap (λ t. t ++ more) (sym wrong.first.joined) ∙ is) in
+    ∙ ap (λ t. t ++ more) (sym wrong.split.joined) ∙ is) in
     wrong.none line (subst (λ t. IsLine t line) (sym parts.0) lines.0)
     (MayStandNext-same from world line (sym same)
     (MayStandNext-of_step from line leads.0 leads.1 leads.3))

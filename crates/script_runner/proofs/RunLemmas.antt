@@ -7,9 +7,9 @@ use Rattle.session_machine.specs.History.{nothing}
 use Rattle.shard_core.specs.Standing.{StandsFor}
 use Rattle.page_script.specs.declared.line.Line.{Line}
 use Rattle.page_script.specs.declared.script.Script.{Script}
-use Rattle.page_script.specs.Lines.{IsLine, most_line}
-use Rattle.page_script.specs.World.{World, empty_world, history, MayStandNext, IsLawfulWorld, ForcesOldLocks}
-use Rattle.page_script.specs.Standing.{Stands, WorldTakesText, IfTold}
+use Rattle.page_script.specs.Lines.{most_line}
+use Rattle.page_script.specs.World.{World, empty_world, history, IsLawfulWorld, PagesForceOldLocks}
+use Rattle.page_script.specs.Standing.{Stands, IsAppended, WorldTakesText, EachWorldTakesText, EachWorldMayTakeText, NoWorldTakesText, IfTold}
 use Rattle.keeper.specs.declared.keeping.Keeper as keepers
 use Rattle.script_runner.specs.declared.driver.Driver.{Driver}
 use Rattle.script_runner.specs.declared.verdict.Verdict.{Verdict}
@@ -97,20 +97,16 @@ module _ {K : Type 0} (G : keepers.Ghosts K) where
 
     -- a line was run, and its print was appended to nothing
     pub line_done : (out out' : List ℕ) → out ≡ []
-        → ((world : World) → Stands G script world
-        → WorldTakesText G script' world text (λ printed.
-        out' ≡ out ++ printed))
+        → EachWorldTakesText G script script' text (IsAppended out out')
         → HasRunLast G script' bytes held' due (out' ++ [])
     line_done out out' empty takes =
         let took = takes run.world run.stands in
         subst (HasRunLast G script' bytes held' due)
         (sym (append-nil out' ∙ took.takes.prints ∙ ap (λ o. o ++ took.takes.printed) empty))
-        (took_last (λ printed. out' ≡ out ++ printed) took)
+        (took_last (IsAppended out out') took)
 
     -- it is none that may follow
-    pub line_wrong : script' ≡ script
-        → ((world : World) (line : Line) → Stands G script world
-        → IsLine text line → MayStandNext world line → ⊥)
+    pub line_wrong : script' ≡ script → NoWorldTakesText G script text
         → (ran : HasRun G script' bytes held due) × BeginsWrong ran.world held
     line_wrong same none =
         subst (λ s. (ran : HasRun G s bytes held due) × BeginsWrong ran.world held) (sym same) (
@@ -118,17 +114,13 @@ module _ {K : Type 0} (G : keepers.Ghosts K) where
           record {
             text = text;
             behind = held';
-            first = split;
-            none =
-                λ line is may. none run.world line run.stands is may;
+            split = split;
+            none = λ line is. none line is run.world run.stands;
           },
         )
 
     -- memory was wanting
-    pub line_lacks : ((world : World) → Stands G script world
-        → Stands G script' world
-        ⊎ WorldTakesText G script' world text (λ printed. ⊤))
-        → (rest : List ℕ)
+    pub line_lacks : EachWorldMayTakeText G script script' text → (rest : List ℕ)
         × (HasRun G script' bytes rest due
         ⊎ ((printed : List ℕ) × HasRunLast G script' bytes rest due printed))
     line_lacks either = of (either run.world run.stands)
@@ -212,7 +204,7 @@ module _ {K : Type 0} (G : keepers.Ghosts K) where
         (lawful : (world : World) → Stands G now.script world
         → IsLawfulWorld world)
         (forced : (world : World) → Stands G now.script world
-        → IfTold (G.told keeper) (ForcesOldLocks world))
+        → IfTold (G.told keeper) (PagesForceOldLocks world))
       where
         -- where a run stood that ended here
         abbrev reached : List Line → World → List ℕ → List ℕ → ℕ → Reached

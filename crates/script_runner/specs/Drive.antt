@@ -8,7 +8,7 @@ use Rattle.session_machine.specs.History.{nothing}
 use Rattle.shard_core.specs.Standing.{StandsFor}
 use Rattle.page_script.specs.declared.line.Line.{Line}
 use Rattle.page_script.specs.Lines.{line_text, IsLine, most_line}
-use Rattle.page_script.specs.World.{World, history, MayStandNext, WorldStep, IsWorldRun, IsLawfulWorld, ForcesOldLocks}
+use Rattle.page_script.specs.World.{World, history, MayStandNext, WorldStep, IsWorldRun, IsLawfulWorld, PagesForceOldLocks}
 use Rattle.page_script.specs.Standing.{IfTold}
 use Rattle.script_runner.specs.declared.verdict.Verdict.{Verdict}
 use Rattle.script_runner.specs.declared.verdict.Verdict.TheVariants.{Whole, Broken}
@@ -32,7 +32,7 @@ AreLines script = AllByRecursion (λ line. IsLine (line_text line) line) script
 pub record BeginsWrong (world : World) (rest : List ℕ) : Type 0 where
   pub text : List ℕ
   pub behind : List ℕ
-  pub first : SplitsAt 10 rest text behind
+  pub split : SplitsAt 10 rest text behind
   pub none : (line : Line) → IsLine text line → MayStandNext world line → ⊥
 
 -- the rest is no whole line: it is longer than a line may be, or the input ended inside it
@@ -125,7 +125,7 @@ pub record IsDrive (CanCount : ℕ → Type 0) (most : ℕ) (f : Flow)
   pub counts : AllByRecursion (λ e. CanCount e.faults) (history world.turns)
   pub stands : StandsFor nothing 0 (history world.turns) told faults
   pub lawful : IsLawfulWorld world
-  pub forced : IfTold told (ForcesOldLocks world)
+  pub forced : IfTold told (PagesForceOldLocks world)
   pub ends : EndsAs end (record {
     flow = f;
     script = script;
