@@ -4,9 +4,11 @@
 # identifier of a session says which server has it. Shown is that each session stays on its server by either front, that a lock holds
 # against both, and that a server which dies takes its own sessions alone with it. It ends with status 1 if anything else comes.
 # usage: examples/farm/farm.sh, once `./asp_state --build` was run; it needs curl, and Debian's haproxy and stunnel4. ASP_STATE names
-# another program than crates/asp_state/out/asp_state. It runs the configurations of packaging on free ports. Outside the gate.
+# another program than crates/asp_state/out/asp_state. The configurations beside it are those of packaging; it puts free ports into them.
+# Outside the gate.
 set -u
-top=$(cd "$(dirname "${BASH_SOURCE[0]}")/../.." && pwd) || exit 1
+here=$(cd "$(dirname "${BASH_SOURCE[0]}")" && pwd) || exit 1
+top=$(cd "$here/../.." && pwd) || exit 1
 # (The program and not the script that runs it, since a server is killed here.)
 program=${ASP_STATE:-$top/crates/asp_state/out/asp_state}
 . "$top/examples/server.sh"
@@ -66,23 +68,23 @@ serve() {
     await_port "${ports[$1]}"
 }
 
-# HAProxy on a port, with the configuration of packaging. Two fronts share the connections that one may have.
+# HAProxy on a port. Two fronts share the connections that one may have.
 proxy() {
     local k words=(-e "s/bind 127.0.0.1:42424/bind 127.0.0.1:$1/")
     for k in 1 2 3; do
         words+=(-e "s/127.0.0.1:4243$k/127.0.0.1:${ports[$k]}/")
     done
     words+=(-e "s/maxconn 48 pool-max-conn 48/maxconn 24 pool-max-conn 24/")
-    sed "${words[@]}" "$top/packaging/haproxy.cfg" >"$work/haproxy-$1.cfg"
+    sed "${words[@]}" "$here/haproxy.cfg" >"$work/haproxy-$1.cfg"
     haproxy -db -f "$work/haproxy-$1.cfg" >"$work/haproxy-$1.log" 2>&1 &
     started+=($!)
     await_port "$1"
 }
 
-# stunnel with one of the two configurations of packaging: the port that it takes, and the one that it leads to.
+# stunnel with one of its two configurations: the port that it takes, and the one that it leads to.
 tunnel() {
     sed -e "s/^accept = .*/accept = 127.0.0.1:$2/" -e "s/^connect = .*/connect = 127.0.0.1:$3/" \
-        -e "s|^PSKsecrets = .*|PSKsecrets = $work/keys|" "$top/packaging/$1" >"$work/$1"
+        -e "s|^PSKsecrets = .*|PSKsecrets = $work/keys|" "$here/$1" >"$work/$1"
     stunnel "$work/$1" >"$work/$1.log" 2>&1 &
     started+=($!)
     await_port "$2"
