@@ -1,6 +1,6 @@
 //! Connections served by the words of a command line.
 ghost use Rattle.std.specs.Prelude.{◌≡◌, ◌≢◌, ◌≤◌, ◌↔◌, ◌⊎◌, ◌^◌, ◌-◌, [], All, None, Some, length, map, string_bytes};
-ghost use Rattle.state_store.specs.Fresh.{IsNewKeeper};
+ghost use Rattle.state_store.specs.NewShards.{IsNewKeeper};
 ghost use Rattle.state_store.specs.Passes.{first_cookie, first_place, last_cookie, shards_of};
 ghost use Rattle.stream_server.specs.Serving.{HasFailed, IfStored, IsServed, IsUntouched, NoneFailed};
 ghost use Rattle.serve_command.specs.Words.{serve_of, workers_in};

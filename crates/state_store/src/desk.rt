@@ -1,4 +1,4 @@
-//! A desk: a shard and its drawer.
+//! A desk, which is a shard and its drawer, and the notes with which its turns are left.
 ghost use Rattle.std.specs.Prelude.{◌≡◌, ◌≤◌, ◌<◌, ◌+◌, ◌++◌, ◌∷◌, [], ◌^◌, ℕ, List, length};
 ghost use Rattle.std.specs.Arc.{arc_value};
 ghost use Rattle.asp_base.specs.Causes.{Rose};
@@ -11,12 +11,13 @@ ghost use Rattle.shard_core.specs.Sweeping.{swept_entry};
 ghost use Rattle.turnstile.specs.Rule.{end_of_places};
 ghost use Rattle.turnstile.specs.declared.stands.Terms.{Terms};
 
-use crate::note::Note;
 use asp_messages::{Ask, Reply, Request};
 use cookie_source::{CookieSource, Drawer};
 use keeper::Keeper;
 use shard_core::{Shard, Swept};
 use std::alloc::Global;
+use std::marker::Model;
+use std::snapshot::Snapshot;
 use std::sync::Arc;
 use turnstile::Stands;
 
@@ -76,8 +77,8 @@ impl<K: Keeper> Desk<K> {
         requires home { drawer_home drawer ≡ source_id (arc_value source) }
         ensures shard { result.shard ≡ keeper }
         ensures drawn { (drawn_at result).cookies ≡ drawn_by drawer }
-        ensures source { ((drawn_at result).first ≡ first_of (arc_value source))
-            × ((drawn_at result).last ≡ last_of (arc_value source)) }
+        ensures first_cookie { (drawn_at result).first_cookie ≡ first_of (arc_value source) }
+        ensures last_cookie { (drawn_at result).last_cookie ≡ last_of (arc_value source) }
     {
         Desk {
             shard: Shard::new(alloc, keeper),
@@ -89,16 +90,16 @@ impl<K: Keeper> Desk<K> {
     /// The cookie of an acquire, 0 where none was left and for every other ask.
     fn draw_for<R>(&mut self, rt: &R, ask: &Ask) -> u64
         ensures fits { DrawFits ask.now result }
-        ensures in_range { 0 < result → ((drawn_at self.old).first ≤ result)
-            × (result ≤ (drawn_at self.old).last) }
+        ensures in_range { 0 < result → ((drawn_at self.old).first_cookie ≤ result)
+            × (result ≤ (drawn_at self.old).last_cookie) }
         ensures above { 0 < result → All (λ n. n < result) (drawn_at self.old).cookies }
         ensures one { 0 < result
             → (drawn_at self.new).cookies ≡ (drawn_at self.old).cookies ++ result ∷ [] }
         ensures none { result ≡ 0 → (drawn_at self.new).cookies ≡ (drawn_at self.old).cookies }
         ensures past_last { IsOutOfCookies ask.now result
-            → (drawn_at self.new).last < (drawn_at self.new).seen }
-        ensures first { (drawn_at self.new).first ≡ (drawn_at self.old).first }
-        ensures last { (drawn_at self.new).last ≡ (drawn_at self.old).last }
+            → (drawn_at self.new).last_cookie < (drawn_at self.new).seen }
+        ensures first_cookie { (drawn_at self.new).first_cookie ≡ (drawn_at self.old).first_cookie }
+        ensures last_cookie { (drawn_at self.new).last_cookie ≡ (drawn_at self.old).last_cookie }
         ensures never_falls { (drawn_at self.old).seen ≤ (drawn_at self.new).seen }
         ensures shard { self.new.shard ≡ self.old.shard }
     {
@@ -163,5 +164,68 @@ impl<K: Keeper> Desk<K> {
         let found = self.shard.sweep_one(t);
         let faults = self.shard.faults();
         Looked { found, faults }
+    }
+}
+
+/// What a note is of.
+#[derive(Drop)]
+pub enum Noted {
+    /// A request and its reply.
+    Asked(Snapshot<Request>, Snapshot<Reply>),
+    /// A look for an expired item.
+    Swept(Snapshot<Swept>),
+}
+
+/// An entry without its bytes: a turn is left with it, and contracts see the entry.
+#[derive(Drop)]
+pub struct Note {
+    caller: u64,
+    moment: u64,
+    noted: Noted,
+    drawn: u64,
+    faults: u64,
+}
+
+impl Model for Note {
+    ghost use Rattle.session_machine.specs.declared.entry.Entry.{Entry};
+    ghost use Rattle.state_store.specs.Noted.{entry_of};
+
+    ghost Value = { Entry };
+
+    ghost view = { λ n. entry_of n.caller n.moment n.noted n.drawn n.faults };
+}
+
+impl Note {
+    /// The entry of a request.
+    pub fn asked(
+        caller: u64,
+        moment: u64,
+        request: Snapshot<Request>,
+        drawn: u64,
+        reply: &Reply,
+        faults: u64,
+    ) -> Note
+        ensures { result ≡ asked_entry caller moment request.value drawn reply.now faults }
+    {
+        Note {
+            caller,
+            moment,
+            noted: Noted::Asked(request, Snapshot::of(reply)),
+            drawn,
+            faults,
+        }
+    }
+
+    /// The entry of a look.
+    pub fn swept(caller: u64, moment: u64, swept: &Swept, faults: u64) -> Note
+        ensures { result ≡ swept_entry caller moment swept.now faults }
+    {
+        Note {
+            caller,
+            moment,
+            noted: Noted::Swept(Snapshot::of(swept)),
+            drawn: 0,
+            faults,
+        }
     }
 }

@@ -3,18 +3,12 @@
 #![tactic(auto)]
 
 mod desk;
-mod fresh;
-mod note;
+mod new_shards;
 mod pass;
-mod sharding;
 mod store;
 mod sweep;
-mod turn;
 
-pub use desk::Desk;
-pub use note::Note;
+pub use desk::{Desk, Note};
 pub use pass::{Pass, Roll};
-pub use sharding::shard_of;
-pub use store::{FreshStore, Store};
+pub use store::{Answer, FreshStore, Store, shard_of};
 pub use sweep::{SweepCount, SweepEnd};
-pub use turn::Answer;

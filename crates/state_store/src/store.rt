@@ -1,17 +1,18 @@
 //! The store and its calls.
-ghost use Rattle.std.specs.Prelude.{◌≡◌, ◌≤◌, All, length};
+ghost use Rattle.std.specs.Prelude.{◌≡◌, ◌≤◌, ◌<◌, All, length};
 ghost use Rattle.turnstile.specs.Turns.{terms_of};
+ghost use Rattle.state_store.specs.Shards.{shard_of_key};
 
 use crate::desk::Desk;
-use crate::fresh::{FreshShards, open_shards};
+use crate::new_shards::{NewShards, open_shards};
 use crate::sweep::sweep_shard;
-use crate::turn::ask_turn;
-use crate::{Answer, Pass, Roll, SweepCount, SweepEnd, shard_of};
+use crate::{Note, Pass, Roll, SweepCount, SweepEnd};
 use asp_base::{Gate, NoMemory};
 use asp_messages::{Reply, Request};
 use cookie_source::{CookieSource, FreshCookies};
 use keeper::Keeper;
 use std::alloc::Global;
+use std::snapshot::Snapshot;
 use std::sync::{Arc, Wait};
 use turnstile::{Stands, Terms, Turnstile};
 
@@ -37,16 +38,36 @@ where
     pub roll: Roll<K>,
 }
 
+/// What a request was answered, and its place in the history of its shard.
+#[derive(Debug, PartialEq, Eq, Drop)]
+pub struct Answer {
+    /// The reply.
+    pub reply: Reply,
+    /// The place, from the store's first place on; `None` where no place was left.
+    pub place: Option<u64>,
+}
+
+/// The shard of the key, of so many shards.
+pub fn shard_of(key: &[u8], shards: u64) -> u64
+    requires { (1 ≤ shards) × (shards ≤ 64) }
+    ensures shard { result ≡ shard_of_key key.now shards }
+    ensures below { result < shards }
+{
+    let mut hash: u64 = 0;
+    for byte in key {
+        hash = (hash * 31 + u64::from(*byte)) % 65536;
+    }
+    hash % shards
+}
+
 impl<K: Keeper + Drop> Store<K> {
     ghost use Rattle.std.specs.Prelude.{ℕ, ◌<◌, ◌≢◌, ◌↔◌, ◌^◌, ◌-◌, ◌+◌, [], IfOk, IsErr, IfSome, IfNone, IsNone};
     ghost use Rattle.asp_messages.specs.Ranges.{RequestFits, ReplyFits};
-    ghost use Rattle.session_machine.specs.History.{nothing};
-    ghost use Rattle.lock_laws.specs.Laws.{LocksHold};
     ghost use Rattle.turnstile.specs.Rule.{end_of_places};
-    ghost use Rattle.state_store.specs.Turns.{AlwaysTells, IsAsked, FindsNoPlace, Meets};
+    ghost use Rattle.state_store.specs.Turns.{IsAsked, FindsNoPlace, Meets};
     ghost use Rattle.state_store.specs.Sweep.{Sweeps};
-    ghost use Rattle.state_store.specs.Fresh.{IsNewKeeper};
-    ghost use Rattle.state_store.specs.Passes.{shards_of, first_place as store_first_place, first_cookie as store_first_cookie, last_cookie as store_last_cookie, shard_for, caller_of, passes_of, view_in, view_for, call_of, IsPassOf, IsRollOf};
+    ghost use Rattle.state_store.specs.NewShards.{IsNewKeeper};
+    ghost use Rattle.state_store.specs.Passes.{shards_of, first_place as store_first_place, first_cookie as store_first_cookie, last_cookie as store_last_cookie, shard_for, caller_of, passes_of, view_in, view_for, call_of, IsPassOf, IsRollOf, KnowsNothing, LocksHoldIn, TicketsNeverFall, CallersAreBelow};
 
     /// A store with a shard for each of 1 to 64 keepers, whose cookies go from `first_cookie` to
     /// `last_cookie`, and whose places begin with `first_place` in each shard; and its roll. After
@@ -77,19 +98,19 @@ impl<K: Keeper + Drop> Store<K> {
             first_number: first_cookie,
             last_number: last_cookie,
         };
-        let fresh = CookieSource::new(
+        let cookies = CookieSource::new(
             rt,
             alloc,
             terms.first_number,
             terms.last_number,
             keepers.len() as u64,
         )?;
-        let FreshCookies { source, drawers } = fresh;
+        let FreshCookies { source, drawers } = cookies;
         let Ok(source) = Arc::new(alloc, source) else {
             return Err(NoMemory);
         };
         let shards = open_shards(rt, alloc, keepers, &source, drawers, terms)?;
-        let FreshShards { turnstiles, rolls } = shards;
+        let NewShards { turnstiles, rolls } = shards;
         Ok(FreshStore {
             store: Store { turnstiles, terms },
             roll: Roll { rolls, made: 0 },
@@ -105,8 +126,7 @@ impl<K: Keeper + Drop> Store<K> {
         ensures made { IfOk result (λ _. passes_of roll.new ≡ passes_of roll.old + 1) }
         ensures pass { IfOk result (IsPassOf self.now) }
         ensures number { IfOk result (λ pass. caller_of pass ≡ passes_of roll.old) }
-        ensures knows_nothing { IfOk result (λ pass. (shard : ℕ)
-            → ((view_in pass shard).front ≡ []) × ((view_in pass shard).own ≡ [])) }
+        ensures knows_nothing { IfOk result KnowsNothing }
         ensures unchanged { IsErr result → roll.new ≡ roll.old }
     {
         let mut passes = Vec::with_capacity(alloc, self.turnstiles.len())?;
@@ -142,8 +162,7 @@ impl<K: Keeper + Drop> Store<K> {
         ensures asked { IfSome result.place (IsAsked (call_of self.now pass.old t) request
             (view_for self.now pass.old request.key) (view_for self.now pass.new request.key)
             result.reply) }
-        ensures locks { AlwaysTells K.told → (shard : ℕ)
-            → LocksHold nothing 0 (view_in pass.new shard).front }
+        ensures locks { LocksHoldIn self.now pass.new }
         ensures others { (shard : ℕ) → shard ≢ shard_for self.now request.key
             → view_in pass.new shard ≡ view_in pass.old shard }
         ensures no_place { IfNone result.place (FindsNoPlace
@@ -153,20 +172,35 @@ impl<K: Keeper + Drop> Store<K> {
             ↔ ((view_for self.now pass.new request.key).ticket ≡ end_of_places) }
         ensures stays_spent { (view_for self.now pass.old request.key).ticket ≡ end_of_places
             → IsNone result.place }
-        ensures never_falls { (shard : ℕ)
-            → (view_in pass.old shard).ticket ≤ (view_in pass.new shard).ticket }
+        ensures never_falls { TicketsNeverFall pass.old pass.new }
     {
         let shard = shard_of(request.key.as_slice(), self.turnstiles.len() as u64);
         let at = shard as usize;
-        ask_turn(
-            rt,
-            &self.turnstiles[at],
-            &mut pass.passes[at],
-            shard,
-            request,
+        let turns = &self.turnstiles[at];
+        let part = &mut pass.passes[at];
+        let about = Snapshot::of(&request);
+        let Ok(mut turn) = turns.enter(rt, part) else {
+            return Answer {
+                reply: Reply::PlacesOut,
+                place: None,
+            };
+        };
+        gate.inside(rt, shard);
+        let acted = turn.state().act(rt, request, t);
+        let note = Note::asked(
+            part.caller(),
             t,
-            gate,
-        )
+            about,
+            acted.drawn,
+            &acted.reply,
+            acted.faults,
+        );
+        let place = turns.leave(rt, part, turn, &note);
+        gate.after(rt, shard);
+        Answer {
+            reply: acted.reply,
+            place: Some(place),
+        }
     }
 
     /// Removes what has expired at the moment `t`, in milliseconds, at most 2^62, shard by shard
@@ -185,10 +219,8 @@ impl<K: Keeper + Drop> Store<K> {
         ensures caller { caller_of pass.new ≡ caller_of pass.old }
         ensures sweeps { Sweeps K.told (call_of self.now pass.old t) (shards_of self.now)
             (view_in pass.old) (view_in pass.new) result }
-        ensures locks { AlwaysTells K.told → (shard : ℕ)
-            → LocksHold nothing 0 (view_in pass.new shard).front }
-        ensures never_falls { (shard : ℕ)
-            → (view_in pass.old shard).ticket ≤ (view_in pass.new shard).ticket }
+        ensures locks { LocksHoldIn self.now pass.new }
+        ensures never_falls { TicketsNeverFall pass.old pass.new }
     {
         let mut removed = 0;
         let mut end = SweepEnd::Clear;
@@ -221,8 +253,7 @@ impl<K: Keeper + Drop> Store<K> {
         ensures b { IsPassOf self.now b.new × (caller_of b.new ≡ caller_of b.old) }
         ensures meets { (shard : ℕ) → Meets (view_in a.old shard) (view_in b.old shard)
             (view_in a.new shard) (view_in b.new shard) }
-        ensures locks { AlwaysTells K.told → (shard : ℕ)
-            → LocksHold nothing 0 (view_in a.new shard).front }
+        ensures locks { LocksHoldIn self.now a.new }
     {
         for at in 0..self.turnstiles.len() {
             self.turnstiles[at].meet(rt, &mut a.passes[at], &mut b.passes[at]);
@@ -235,8 +266,7 @@ impl<K: Keeper + Drop> Store<K> {
         requires pass { IsPassOf self.now pass.old }
         ensures pass { IsPassOf self.now pass.new }
         ensures caller { caller_of pass.new ≡ caller_of pass.old }
-        ensures callers { (shard : ℕ)
-            → All (λ e. e.caller < passes_of roll) (view_in pass.new shard).front }
+        ensures callers { CallersAreBelow (passes_of roll) pass.new }
         ensures same { (shard : ℕ) → view_in pass.new shard ≡ view_in pass.old shard }
     {
         let Roll { mut rolls, made: _ } = roll;

@@ -47,8 +47,8 @@ fn a_gate_is_told_of_each_turn(rt: HostRuntime) -> Result<(), Fail> {
     let gate = Noting {
         noted: AtomicU64::new(0),
     };
-    let fresh = open(&rt, alloc, keepers(alloc, 2)?, 0)?;
-    let FreshStore { store, mut roll } = fresh;
+    let opened = open(&rt, alloc, keepers(alloc, 2)?, 0)?;
+    let FreshStore { store, mut roll } = opened;
     let mut pass = first_pass(&rt, alloc, &store, &mut roll)?;
     let first = store.ask(&rt, &mut pass, write(alloc, b'a', 1)?, 0, &gate);
     assert_eq!(rt; first.reply, Reply::Done);
@@ -70,8 +70,8 @@ fn a_gate_is_told_of_no_turn_where_no_place_is_left(rt: HostRuntime) -> Result<(
     let gate = Noting {
         noted: AtomicU64::new(0),
     };
-    let fresh = open(&rt, alloc, keepers(alloc, 1)?, END_OF_PLACES)?;
-    let FreshStore { store, mut roll } = fresh;
+    let opened = open(&rt, alloc, keepers(alloc, 1)?, END_OF_PLACES)?;
+    let FreshStore { store, mut roll } = opened;
     let mut pass = first_pass(&rt, alloc, &store, &mut roll)?;
     let asked = store.ask(&rt, &mut pass, on_key(alloc, b'a', Ask::Read)?, 0, &gate);
     assert_eq!(rt; asked.reply, Reply::PlacesOut);

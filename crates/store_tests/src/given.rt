@@ -3,7 +3,7 @@
 ghost use Rattle.std.specs.Prelude.{◌≡◌, ◌≤◌, ◌^◌, [], All, length, IfOk};
 ghost use Rattle.asp_messages.specs.Ranges.{AskFits, ReplyFits, RequestFits};
 ghost use Rattle.turnstile.specs.Rule.{end_of_places};
-ghost use Rattle.state_store.specs.Fresh.{IsNewKeeper};
+ghost use Rattle.state_store.specs.NewShards.{IsNewKeeper};
 ghost use Rattle.state_store.specs.Passes.{first_place as store_first_place, passes_of, IsPassOf, IsRollOf};
 
 use asp_base::{Bytes, NoMemory, OpenGate};

@@ -79,8 +79,8 @@ fn read_of(alloc: Global, request: &Request) -> Result<Request, NoMemory>
 fn two_share<R: Abort + Wait>(rt: &R, alloc: Global, shards: u64) -> Result<(), Fail>
     requires { (1 ≤ shards) × (shards ≤ 64) }
 {
-    let fresh = open(rt, alloc, keepers(alloc, shards)?, 0)?;
-    let FreshStore { store, mut roll } = fresh;
+    let opened = open(rt, alloc, keepers(alloc, shards)?, 0)?;
+    let FreshStore { store, mut roll } = opened;
     let mut a = store.pass(rt, alloc, &mut roll)?;
     let mut b = store.pass(rt, alloc, &mut roll)?;
     assert_eq!(rt; (a.caller(), b.caller()), (0, 1));
@@ -103,8 +103,8 @@ fn two_passes_share_a_history(rt: HostRuntime) -> Result<(), Fail> {
 fn the_last_place_is_given_once(rt: HostRuntime) -> Result<(), Fail> {
     let alloc = rt.alloc();
     let last_place = 9_223_372_036_854_775_806;
-    let fresh = open(&rt, alloc, keepers(alloc, 1)?, last_place)?;
-    let FreshStore { store, mut roll } = fresh;
+    let opened = open(&rt, alloc, keepers(alloc, 1)?, last_place)?;
+    let FreshStore { store, mut roll } = opened;
     let store = &store;
     let mut pass = first_pass(&rt, alloc, store, &mut roll)?;
     let out = Answer {
@@ -126,8 +126,8 @@ fn the_last_place_is_given_once(rt: HostRuntime) -> Result<(), Fail> {
 #[test]
 fn shards_draw_from_one_source(rt: HostRuntime) -> Result<(), Fail> {
     let alloc = rt.alloc();
-    let fresh = open(&rt, alloc, keepers(alloc, 8)?, 0)?;
-    let FreshStore { store, mut roll } = fresh;
+    let opened = open(&rt, alloc, keepers(alloc, 8)?, 0)?;
+    let FreshStore { store, mut roll } = opened;
     let store = &store;
     let mut pass = first_pass(&rt, alloc, store, &mut roll)?;
     let first = write(alloc, b'b', 20)?;
@@ -146,8 +146,8 @@ fn shards_draw_from_one_source(rt: HostRuntime) -> Result<(), Fail> {
 #[test]
 fn the_last_cookie_of_a_store_is_granted_once(rt: HostRuntime) -> Result<(), Fail> {
     let alloc = rt.alloc();
-    let fresh = Store::new(&rt, alloc, keepers(alloc, 8)?, LAST_COOKIE, LAST_COOKIE, 0)?;
-    let FreshStore { store, mut roll } = fresh;
+    let opened = Store::new(&rt, alloc, keepers(alloc, 8)?, LAST_COOKIE, LAST_COOKIE, 0)?;
+    let FreshStore { store, mut roll } = opened;
     let store = &store;
     let mut pass = first_pass(&rt, alloc, store, &mut roll)?;
     answer(&rt, store, &mut pass, write(alloc, b'b', 20)?);

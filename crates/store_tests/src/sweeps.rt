@@ -20,8 +20,8 @@ fn swept(removed: u64, end: SweepEnd) -> SweepCount {
 fn two_expire<R: Abort + Wait>(rt: &R, alloc: Global, shards: u64) -> Result<(), Fail>
     requires { (1 ≤ shards) × (shards ≤ 64) }
 {
-    let fresh = open(rt, alloc, keepers(alloc, shards)?, 0)?;
-    let FreshStore { store, mut roll } = fresh;
+    let opened = open(rt, alloc, keepers(alloc, shards)?, 0)?;
+    let FreshStore { store, mut roll } = opened;
     let mut pass = first_pass(rt, alloc, &store, &mut roll)?;
     answer(rt, &store, &mut pass, write(alloc, b'a', 1)?);
     answer(rt, &store, &mut pass, write(alloc, b'b', 1)?);
@@ -41,8 +41,8 @@ fn expired_items_are_removed(rt: HostRuntime) -> Result<(), Fail> {
 #[test]
 fn an_item_is_removed_one_day_after_it_was_made(rt: HostRuntime) -> Result<(), Fail> {
     let alloc = rt.alloc();
-    let fresh = open(&rt, alloc, keepers(alloc, 8)?, 0)?;
-    let FreshStore { store, mut roll } = fresh;
+    let opened = open(&rt, alloc, keepers(alloc, 8)?, 0)?;
+    let FreshStore { store, mut roll } = opened;
     let mut pass = first_pass(&rt, alloc, &store, &mut roll)?;
     answer(&rt, &store, &mut pass, write(alloc, b'a', 525_600)?);
     let early = sweep(&rt, &store, &mut pass, 86_399_999);
@@ -81,8 +81,8 @@ fn write_many<R: Wait>(
 #[test]
 fn a_sweep_removes_a_thousand_items_of_a_shard(rt: HostRuntime) -> Result<(), Fail> {
     let alloc = rt.alloc();
-    let fresh = open(&rt, alloc, keepers(alloc, 1)?, 0)?;
-    let FreshStore { store, mut roll } = fresh;
+    let opened = open(&rt, alloc, keepers(alloc, 1)?, 0)?;
+    let FreshStore { store, mut roll } = opened;
     let mut pass = first_pass(&rt, alloc, &store, &mut roll)?;
     write_many(&rt, alloc, &store, &mut pass, 1001)?;
     let first = sweep(&rt, &store, &mut pass, 60_000);
@@ -98,8 +98,8 @@ fn a_fault_ends_a_sweep(rt: HostRuntime) -> Result<(), Fail> {
     let fails = [0, 3].to_vec(alloc)?;
     let keeper = FaultyKeeper::new(ListKeeper::new(alloc), fails);
     let keepers = vec![in alloc; keeper]?;
-    let fresh = open(&rt, alloc, keepers, 0)?;
-    let FreshStore { store, mut roll } = fresh;
+    let opened = open(&rt, alloc, keepers, 0)?;
+    let FreshStore { store, mut roll } = opened;
     let mut pass = first_pass(&rt, alloc, &store, &mut roll)?;
     let refused = answer(&rt, &store, &mut pass, write(alloc, b'a', 1)?);
     assert_eq!(rt; refused.reply, Reply::KeeperFault);

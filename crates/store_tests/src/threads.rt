@@ -156,12 +156,12 @@ fn make_passes<K: Keeper + Drop, R>(
 fn count<K: Keeper + Drop + Send, R: Abort + Threads + Wait + Sync>(
     rt: &R,
     alloc: Global,
-    fresh: FreshStore<K>,
+    opened: FreshStore<K>,
 ) -> Result<(), Fail>
-    requires roll { IsRollOf fresh.store fresh.roll }
-    requires no_pass { passes_of fresh.roll ≡ 0 }
+    requires roll { IsRollOf opened.store opened.roll }
+    requires no_pass { passes_of opened.roll ≡ 0 }
 {
-    let FreshStore { store, mut roll } = fresh;
+    let FreshStore { store, mut roll } = opened;
     let mut own = first_pass(rt, alloc, &store, &mut roll)?;
     set(rt, alloc, &store, &mut own, 0, None).ok_or("no counter")?;
     let passes = make_passes(rt, alloc, &store, &mut roll)?;
@@ -175,8 +175,8 @@ fn count<K: Keeper + Drop + Send, R: Abort + Threads + Wait + Sync>(
 #[test]
 fn no_addition_is_lost(rt: HostRuntime) -> Result<(), Fail> {
     let alloc = rt.alloc();
-    let fresh = open(&rt, alloc, keepers(alloc, 8)?, 0)?;
-    count(&rt, alloc, fresh)
+    let opened = open(&rt, alloc, keepers(alloc, 8)?, 0)?;
+    count(&rt, alloc, opened)
 }
 
 #[test]
@@ -187,6 +187,6 @@ fn no_addition_is_lost_where_calls_fail(rt: HostRuntime) -> Result<(), Fail> {
         fails.push(call * 7)?;
     }
     let keeper = FaultyKeeper::new(ListKeeper::new(alloc), fails);
-    let fresh = open(&rt, alloc, vec![in alloc; keeper]?, 0)?;
-    count(&rt, alloc, fresh)
+    let opened = open(&rt, alloc, vec![in alloc; keeper]?, 0)?;
+    count(&rt, alloc, opened)
 }

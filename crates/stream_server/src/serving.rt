@@ -1,6 +1,6 @@
 //! Workers that serve over one store, and what they leave.
 ghost use Rattle.std.specs.Prelude.{◌≡◌, ◌≢◌, ◌≤◌, ◌⊎◌, ◌^◌, ◌-◌, All, length, None, [], IsTrue, IsFalse};
-ghost use Rattle.state_store.specs.Fresh.{IsNewKeeper};
+ghost use Rattle.state_store.specs.NewShards.{IsNewKeeper};
 ghost use Rattle.state_store.specs.Passes.{first_cookie, first_place, last_cookie, shards_of};
 ghost use Rattle.stream_server.specs.Serving.{IfStored, IsServed, IsUntouched, HasFailed, NoneFailed};
 
