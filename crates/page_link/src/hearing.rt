@@ -8,12 +8,9 @@ ghost use Rattle.page_link.specs.Exchanges.{Hears, HearsNone};
 
 use crate::exchange::Break;
 use crate::link::Link;
-use asp_base::{Failed, NoMemory};
+use asp_base::{Failed, MOST_PIECE, NoMemory};
 use reply_reader::{ReplyNext, ReplyReader};
 use visit_core::Heard;
-
-/// The most bytes that one receipt asks for.
-const MOST_RECEIPT: usize = 16_384;
 
 /// Receives a piece and feeds it to the reader. At the end of the bytes to be received the answer
 /// is bad: it is not whole.
@@ -31,7 +28,7 @@ fn receive_piece<R, L: Link>(rt: &R, reader: &mut ReplyReader, link: &mut L) -> 
     ensures pauses { L.pauses link.new ≡ L.pauses link.old }
     ensures faults { L.faults link.old ≤ L.faults link.new }
 {
-    let mut buf = [0u8; MOST_RECEIPT];
+    let mut buf = [0u8; MOST_PIECE];
     let count = match link.receive(rt, &mut buf) {
         Ok(count) => count,
         Err(Failed) => return Err(Break::LinkFault),
