@@ -6,23 +6,24 @@ use Rattle.lock_laws.proofs.LawLemmas.{LocksHoldIn-of_legal}
 use Rattle.session_machine.specs.declared.entry.Entry.{Entry}
 use Rattle.session_machine.specs.declared.profile.Profile.{Profile}
 use Rattle.session_machine.specs.History.{nothing}
-use Rattle.journal_text.specs.declared.judgement.Judgement.{Judgement}
-use Rattle.journal_text.specs.declared.judgement.Judgement.TheVariants.{Legal, Illegal}
-use Rattle.journal_text.specs.Checking.{Checked, HasTaken}
-use Rattle.journal_text.specs.JournalText.{IsJournal}
-use Rattle.journal_text.specs.Judging.{Judges}
-use Rattle.journal_text.specs.Reading.{Reading, Taken, IsJournalOf, StopsAt, HasRead}
-use Rattle.journal_text.specs.Verdict.{judgement_line}
+use Rattle.journal_text.specs.declared.judging.judgement.Judgement.{Judgement}
+use Rattle.journal_text.specs.declared.judging.judgement.Judgement.TheVariants.{Legal, Illegal}
+use Rattle.journal_text.specs.JudgingChecker.{Checked, HasTaken}
+use Rattle.journal_text.specs.WritingText.{IsJournal}
+use Rattle.journal_text.specs.JudgingEntries.{Judges}
+use Rattle.journal_text.specs.ReadingText.{Reading, Taken, IsJournalOf, StopsAt, HasRead}
+use Rattle.journal_text.specs.JudgingLine.{judgement_line}
 use Rattle.journal_text.proofs.JournalLemmas.{journal_one, journal_stops}
 use Rattle.journal_replay.proofs.LineLemmas.{lines_of}
-use Rattle.journal_replay.specs.declared.verdict.Verdict.{Verdict}
-use Rattle.journal_replay.specs.declared.verdict.Verdict.TheVariants as verdicts
+use Rattle.journal_replay.specs.declared.replay_verdict.Verdict.{Verdict}
+use Rattle.journal_replay.specs.declared.replay_verdict.Verdict.TheVariants as verdicts
 use Rattle.journal_replay.specs.declared.replayer.Replayer.{Replayer}
-use Rattle.journal_replay.specs.Progress.{Breaks, Checks, Closes, Finds, Gave, HasReplayed, Lacks, Waits, Went, verdict_of}
-use Rattle.journal_replay.specs.Replay.{End, EndsAs, GivesLocks, IsDue, IsJudged, IsReplay, IsStatusOf, TellsJournal, TellsNoJournal, status_number, verdict_number}
+use Rattle.journal_replay.specs.Progress.{Breaks, Checks, Finds, Gave, HasReplayed, Lacks, Waits, Went, verdict_of}
+use Rattle.journal_replay.specs.Replay.{End, EndsAs, GivesLocks, IsOwedLine, IsJudged, IsReplay, IsStatusOf, TellsJournal, TellsNoJournal, status_number, verdict_number}
 use Rattle.stream_run.specs.declared.consumer.Consumer.{Ghosts}
 use Rattle.stream_run.specs.declared.ending.End.TheVariants as ends
 use Rattle.stream_run.specs.Ending.{Ended, IsOver, IfFewer, IsComplete}
+use Rattle.stream_run.specs.Feeding.{OverAtEnd}
 use Rattle.stream_run.specs.Flow.{Flow, flow}
 
 -- ---- what is found at the end of the input
@@ -37,7 +38,7 @@ locks_of profile (Illegal at why) place list judges = tt
 judged_of : (bytes : List ℕ) (checker : Checked) (judgement : Judgement) (taken : Taken)
     → IsJournalOf bytes taken → Checks taken checker
     → ((list : List Entry) → HasTaken checker list
-    → Judges checker.known.profile checker.first list judgement)
+    → Judges checker.known.profile checker.first_place list judgement)
     → (judged : IsJudged bytes judgement) × (judged.profile ≡ checker.known.profile)
 judged_of bytes checker judgement None journal checks judges = absurd journal
 judged_of bytes checker judgement (Some t) journal checks judges =
@@ -59,7 +60,7 @@ pub finds_judged : (judgement : Judgement) (verdict : Verdict) (bytes : List ℕ
     (checker : Checked) (line : List ℕ)
     → ((text : List ℕ) (taken : Taken) → HasRead text taken reader → IsJournalOf text taken)
     → ((list : List Entry) → HasTaken checker list
-    → Judges checker.known.profile checker.first list judgement)
+    → Judges checker.known.profile checker.first_place list judgement)
     → verdict ≡ verdict_of judgement → line ≡ judgement_line checker.known.profile judgement
     → HasReplayed bytes reader checker → Finds verdict bytes line
 finds_judged judgement verdict bytes reader checker line journal judges is line_is has =
@@ -81,12 +82,9 @@ ghosts = record {
   went = Went;
   waits = λ more now. Waits now.reader;
   gave = Gave;
-  breaks = λ broken first now. Breaks broken.over;
-  closes = Closes;
   lacks = Lacks;
   work = λ now. length now.reader.held;
-  head = λ now. now.line.items;
-  body = λ now. [];
+  parts = λ now. (now.line.items, []);
 }
 
 nothing_taken : (sink sink' : Option (List ℕ)) → Takes sink sink' [] → sink' ≡ sink
@@ -97,17 +95,18 @@ nothing_taken (Some old) (Some new) takes = ap Some (takes ∙ append-nil old)
 
 module _ (most : ℕ) (first now : Replayer) (source' : Option (List ℕ
     × List ℕ)) (sink sink' : Option (List ℕ)) (bytes : List ℕ) where
-  -- what a replay is over with is due, and nothing was written before it
-  due_of : (verdict : Verdict) (whole last : List ℕ)
+  -- what a replay is over with is owed, and nothing was written before it
+  owed_of : (verdict : Verdict) (whole last : List ℕ)
       → IsOver ghosts most first now source' bytes verdict whole last → (whole ≡ [])
-      × IsDue verdict source' bytes most last
-  due_of verdicts.Legal whole last (inl (closes, end, some)) = (closes.0, ((end, some), closes.1))
-  due_of verdicts.Illegal whole last (inl (closes, end, some)) = (closes.0, ((end, some), closes.1))
-  due_of verdicts.NotAJournal whole last (inl (closes, end, some)) =
+      × IsOwedLine verdict source' bytes most last
+  owed_of verdicts.Legal whole last (inl (closes, end, some)) = (closes.0, ((end, some), closes.1))
+  owed_of verdicts.Illegal whole last (inl (closes, end, some)) =
+      (closes.0, ((end, some), closes.1))
+  owed_of verdicts.NotAJournal whole last (inl (closes, end, some)) =
       (closes.0, (closes.1.0, inl ((end, some), closes.1.1), closes.1.2))
-  due_of verdicts.Legal whole last (inr (more, breaks, room)) = absurd breaks
-  due_of verdicts.Illegal whole last (inr (more, breaks, room)) = absurd breaks
-  due_of verdicts.NotAJournal whole last (inr (more, breaks, room)) =
+  owed_of verdicts.Legal whole last (inr (more, breaks, room)) = absurd breaks
+  owed_of verdicts.Illegal whole last (inr (more, breaks, room)) = absurd breaks
+  owed_of verdicts.NotAJournal whole last (inr (more, breaks, room)) =
       (breaks.0, (breaks.1.0, inr breaks.1.1, breaks.1.2))
 
   -- nothing stands before the last line
@@ -119,8 +118,8 @@ module _ (most : ℕ) (first now : Replayer) (source' : Option (List ℕ
       → Takes sink sink' (whole ++ take n last) → TakesFront sink sink' last
   last_front whole last n none le wrote = (n, le, last_only whole (take n last) none wrote)
 
-  none_taken : (due : List ℕ) → due ≡ [] → Takes sink sink' due → sink' ≡ sink
-  none_taken due none wrote = nothing_taken sink sink' (subst (Takes sink sink') none wrote)
+  none_taken : (owed : List ℕ) → owed ≡ [] → Takes sink sink' owed → sink' ≡ sink
+  none_taken owed none wrote = nothing_taken sink sink' (subst (Takes sink sink') none wrote)
 
 module _ (most : ℕ) (first now : Replayer) (source source' : Option (List ℕ × List ℕ))
     (sink sink' : Option (List ℕ))
@@ -129,13 +128,17 @@ module _ (most : ℕ) (first now : Replayer) (source source' : Option (List ℕ 
         → EndsAs end source' sink sink' run.taken most
     ends_of (ends.Over verdict) run =
         let (whole, last, over, wrote) = run.ends in
-        let due = due_of most first now source' sink sink' run.taken verdict whole last over in
-        (last, due.1, last_only most first now source' sink sink' run.taken whole last due.0 wrote)
+        let owed = owed_of most first now source' sink sink' run.taken verdict whole last over in (
+          last,
+          owed.1,
+          last_only most first now source' sink sink' run.taken whole last owed.0
+              wrote,
+        )
     ends_of ends.ReadFault run =
-        let (due, went, waits, some, wrote) = run.ends in (
+        let (owed, went, waits, some, wrote) = run.ends in (
           lines_of run.taken now.reader now.checker went.0 waits,
           some,
-          none_taken most first now source' sink sink' run.taken due went.1 wrote,
+          none_taken most first now source' sink sink' run.taken owed went.1 wrote,
         )
     ends_of ends.WriteFault run =
         in_part run.ends.0 run.ends.1 run.ends.2 run.ends.3 run.ends.4 run.ends.5 run.ends.6
@@ -147,11 +150,12 @@ module _ (most : ℕ) (first now : Replayer) (source source' : Option (List ℕ 
             → 0 < length last → n ≤ length last → Takes sink sink' (whole ++ take n last)
             → EndsAs ends.WriteFault source' sink sink' run.taken most
         in_part whole last n (inl (found, over)) some le wrote =
-            let due = due_of most first now source' sink sink' run.taken found whole last over in (
+            let owed = owed_of most first now source' sink sink' run.taken found whole last
+            over in (
               found,
               last,
-              due.1,
-              last_front most first now source' sink sink' run.taken whole last n due.0 le wrote,
+              owed.1,
+              last_front most first now source' sink sink' run.taken whole last n owed.0 le wrote,
             )
         in_part whole last n (inr none) some le wrote =
             absurd (let none_long = ap length none in let wrong : ⊥ =
@@ -159,10 +163,10 @@ module _ (most : ℕ) (first now : Replayer) (source source' : Option (List ℕ 
     ends_of ends.NoMemory run =
         none_taken most first now source' sink sink' run.taken run.ends.0 run.ends.1 run.ends.2
     ends_of ends.Long run =
-        let (due, went, waits, all, wrote) = run.ends in (
+        let (owed, went, waits, all, wrote) = run.ends in (
           lines_of run.taken now.reader now.checker went.0 waits,
           all,
-          none_taken most first now source' sink sink' run.taken due went.1 wrote,
+          none_taken most first now source' sink sink' run.taken owed went.1 wrote,
         )
 
     pub replay_of : (end : End) → Ended ghosts most first now (flow source source' sink sink') end
@@ -179,7 +183,7 @@ module _ (most : ℕ) (first now : Replayer) (source source' : Option (List ℕ 
 module _ (first now : Replayer) (input : List ℕ) where
   -- what is found is found of the whole input
   found_of : (verdict : Verdict) (whole last : List ℕ)
-      → Closes verdict first now input whole last
+      → Gave (OverAtEnd verdict) first now input whole last
       ⊎ ((front : List ℕ) × (behind : List ℕ) × (more : Bool) × (input ≡ front ++ behind)
       × Breaks verdict front whole last)
       → (line : List ℕ) × Finds verdict input line

@@ -5,11 +5,11 @@ use Rattle.std.specs.List.{flat_map}
 use Rattle.plain_words.specs.Words.{HasNo}
 use Rattle.session_machine.specs.declared.entry.Entry.{Entry}
 use Rattle.session_machine.specs.declared.profile.Profile.{Profile}
-use Rattle.journal_text.specs.declared.reader.JournalNext.TheVariants as nexts
-use Rattle.journal_text.specs.Checking.{Checked, HasTaken}
-use Rattle.journal_text.specs.JournalText.{entry_words, entry_line, head_line, line, most_line}
-use Rattle.journal_text.specs.Next.{taken_with}
-use Rattle.journal_text.specs.Reading.{IsNoLine, Taken, begun_by, taken_text, StopsAt, Reading, broken, HasRead}
+use Rattle.journal_text.specs.declared.reading.journal_reader.JournalNext.TheVariants as nexts
+use Rattle.journal_text.specs.JudgingChecker.{Checked, HasTaken}
+use Rattle.journal_text.specs.WritingText.{entry_words, entry_line, head_line, line, most_line}
+use Rattle.journal_text.specs.ReadingAnswers.{taken_with}
+use Rattle.journal_text.specs.ReadingText.{IsNoLine, Taken, begun_by, taken_text, StopsAt, Reading, broken, HasRead}
 use Rattle.journal_text.proofs.ReadingLemmas.{no_line_more}
 use Rattle.journal_replay.specs.Progress.{Checks, HasReplayed, Waits}
 use Rattle.journal_replay.specs.Replay.{AreLines}
@@ -96,7 +96,7 @@ pub head_at : (text : List ℕ) (profile : Profile) (place : ℕ) (old new : Rea
     → old.begun ≡ None → HasReplayed text old checker
     → ((taken : Taken) → HasRead text taken old
     → HasRead text (taken_with (nexts.Head profile place) taken) new) → new.is_broken ≡ false
-    → checker'.known.profile ≡ profile → checker'.first ≡ place → HasTaken checker' []
+    → checker'.known.profile ≡ profile → checker'.first_place ≡ place → HasTaken checker' []
     → HasReplayed text new checker'
 head_at text profile place old new checker checker' begun has reads whole in_profile first empty =
     at has.taken has.read
@@ -116,7 +116,7 @@ pub entry_at : (text : List ℕ) (e : Entry) (old new : Reading) (checker checke
     (profile : Profile) → old.begun ≡ Some profile → HasReplayed text old checker
     → ((taken : Taken) → HasRead text taken old
     → HasRead text (taken_with (nexts.Entry e) taken) new) → new.is_broken ≡ false
-    → checker'.known.profile ≡ checker.known.profile → checker'.first ≡ checker.first
+    → checker'.known.profile ≡ checker.known.profile → checker'.first_place ≡ checker.first_place
     → ((list : List Entry) → HasTaken checker list → HasTaken checker' (list ++ e ∷ []))
     → HasReplayed text new checker'
 entry_at text e old new checker checker' profile begun has reads whole in_profile first takes =
@@ -143,12 +143,12 @@ stops_none text old new checker offset is at reads has more =
     (stops_whatever text more has.taken new (reads has.taken has.read)
     (ap (λ (r : Reading). r.is_broken) is))
 
--- nothing is due still
+-- nothing is owed still
 pub none_last : (line : List ℕ) → line ≡ [] → line ++ [] ≡ []
 none_last line empty = append-nil line ∙ empty
 
-pub none_more : (due line : List ℕ) → due ≡ [] → line ≡ [] → due ++ (line ++ []) ≡ []
-none_more due line none empty =
+pub none_more : (owed line : List ℕ) → owed ≡ [] → line ≡ [] → owed ++ (line ++ []) ≡ []
+none_more owed line none empty =
     subst (λ d. d ++ (line ++ []) ≡ []) (sym none) (none_last line empty)
 
 -- what is given is the line

@@ -1,23 +1,24 @@
 -- Inside a replay: where it stands between two lines.
 use Rattle.std.specs.Prelude.{◌≡◌, ℕ, ◌≤◌, List, [], ◌++◌, length, Some, None, IsTrue, IsFalse, ⊤}
 use Rattle.plain_words.specs.Words.{HasNo}
-use Rattle.journal_text.specs.declared.judgement.Judgement.{Judgement}
-use Rattle.journal_text.specs.declared.judgement.Judgement.TheVariants.{Legal, Illegal}
-use Rattle.journal_text.specs.declared.judgement.Why.{Why}
-use Rattle.journal_text.specs.Checking.{Checked, HasTaken}
-use Rattle.journal_text.specs.JournalText.{most_line}
-use Rattle.journal_text.specs.Reading.{Reading, StopsAt, Taken, HasRead}
-use Rattle.journal_text.specs.Verdict.{judgement_line}
-use Rattle.journal_replay.specs.declared.verdict.Verdict.{Verdict}
-use Rattle.journal_replay.specs.declared.verdict.Verdict.TheVariants as verdicts
+use Rattle.journal_text.specs.declared.judging.judgement.Judgement.{Judgement}
+use Rattle.journal_text.specs.declared.judging.judgement.Judgement.TheVariants.{Legal, Illegal}
+use Rattle.journal_text.specs.declared.judging.judgement.Why.{Why}
+use Rattle.journal_text.specs.JudgingChecker.{Checked, HasTaken}
+use Rattle.journal_text.specs.WritingText.{most_line}
+use Rattle.journal_text.specs.ReadingText.{Reading, StopsAt, Taken, HasRead}
+use Rattle.journal_text.specs.JudgingLine.{judgement_line}
+use Rattle.journal_replay.specs.declared.replay_verdict.Verdict.{Verdict}
+use Rattle.journal_replay.specs.declared.replay_verdict.Verdict.TheVariants as verdicts
 use Rattle.journal_replay.specs.declared.replayer.Replayer.{Replayer}
 use Rattle.journal_replay.specs.Replay.{IsJudged, stop_line}
+use Rattle.stream_run.specs.Feeding.{Going, GoesOn, OverAnyhow, OverAtEnd}
 
 -- the checker has taken the entries that were taken of a text, the first of them at its place, in
 -- the text's profile
 abbrev pub Checks : Taken → Checked → Type 0
 Checks None checker = ⊤
-Checks (Some t) checker = (checker.known.profile ≡ t.0) × (checker.first ≡ t.1)
+Checks (Some t) checker = (checker.known.profile ≡ t.0) × (checker.first_place ≡ t.1)
     × HasTaken checker t.2
 
 -- The reader was fed the text, and the checker has taken the entries that were taken of it.
@@ -38,12 +39,8 @@ pub record Waits (r : Reading) : Type 0 where
 
 -- the bytes were replayed, and nothing was given
 abbrev pub Went : Replayer → Replayer → List ℕ → List ℕ → Type 0
-Went first now bytes due =
-    HasReplayed bytes now.reader now.checker × (due ≡ []) × (now.line.items ≡ [])
-
--- no line gives anything
-abbrev pub Gave : Replayer → Replayer → List ℕ → List ℕ → List ℕ → Type 0
-Gave first now bytes whole last = last ≡ []
+Went start now bytes given =
+    HasReplayed bytes now.reader now.checker × (given ≡ []) × (now.line.items ≡ [])
 
 -- the bytes stop being a journal, whatever follows them
 abbrev pub Breaks : Verdict → List ℕ → List ℕ → List ℕ → Type 0
@@ -64,12 +61,15 @@ Finds verdicts.Illegal bytes line = (place : ℕ) × (why : Why)
 Finds verdicts.NotAJournal bytes line =
     (offset : ℕ) × StopsAt bytes offset × (line ≡ stop_line offset)
 
-abbrev pub Closes : Verdict → Replayer → Replayer → List ℕ → List ℕ → List ℕ → Type 0
-Closes verdict first now bytes whole last = (whole ≡ []) × Finds verdict bytes last
+-- what was given last: no line gives anything, and the line of the verdict is all that is given
+abbrev pub Gave : Going Verdict → Replayer → Replayer → List ℕ → List ℕ → List ℕ → Type 0
+Gave GoesOn start now bytes whole last = last ≡ []
+Gave (OverAnyhow more verdict) start now bytes whole last = Breaks verdict bytes whole last
+Gave (OverAtEnd verdict) start now bytes whole last = (whole ≡ []) × Finds verdict bytes last
 
 -- nothing was written
 abbrev pub Lacks : Replayer → Replayer → List ℕ → List ℕ → Type 0
-Lacks first now bytes due = due ≡ []
+Lacks start now bytes given = given ≡ []
 
 -- the verdict of a judgement
 abbrev pub verdict_of : Judgement → Verdict

@@ -8,15 +8,15 @@ use Rattle.session_machine.specs.declared.entry.Entry.{Entry}
 use Rattle.session_machine.specs.declared.profile.Profile.{Profile}
 use Rattle.session_machine.specs.History.{nothing}
 use Rattle.lock_laws.specs.Laws.{LocksHoldIn}
-use Rattle.journal_text.specs.declared.judgement.Judgement.{Judgement}
-use Rattle.journal_text.specs.declared.judgement.Judgement.TheVariants.{Legal, Illegal}
-use Rattle.journal_text.specs.declared.judgement.Why.{Why}
-use Rattle.journal_text.specs.JournalText.{IsJournal, most_line}
-use Rattle.journal_text.specs.Judging.{Judges}
-use Rattle.journal_text.specs.Reading.{Taken, TakenFits, StopsAt, taken_text}
-use Rattle.journal_text.specs.Verdict.{judgement_line}
-use Rattle.journal_replay.specs.declared.verdict.Verdict.{Verdict}
-use Rattle.journal_replay.specs.declared.verdict.Verdict.TheVariants as verdicts
+use Rattle.journal_text.specs.declared.judging.judgement.Judgement.{Judgement}
+use Rattle.journal_text.specs.declared.judging.judgement.Judgement.TheVariants.{Legal, Illegal}
+use Rattle.journal_text.specs.declared.judging.judgement.Why.{Why}
+use Rattle.journal_text.specs.WritingText.{IsJournal, most_line}
+use Rattle.journal_text.specs.JudgingEntries.{Judges}
+use Rattle.journal_text.specs.ReadingText.{Taken, TakenFits, StopsAt, taken_text}
+use Rattle.journal_text.specs.JudgingLine.{judgement_line}
+use Rattle.journal_replay.specs.declared.replay_verdict.Verdict.{Verdict}
+use Rattle.journal_replay.specs.declared.replay_verdict.Verdict.TheVariants as verdicts
 use Rattle.stream_run.specs.declared.ending.End as run
 use Rattle.stream_run.specs.declared.ending.End.TheVariants as ends
 use Rattle.stream_run.specs.Status.{status_number as status_with}
@@ -68,17 +68,17 @@ End = run.End Verdict
 unfoldable pub stop_line : ℕ → List ℕ
 stop_line offset = (codes "not a journal at" then decimal offset) ++ codes "\n"
 
--- the line that is due where this was found
-abbrev pub IsDue : Verdict → Option (List ℕ × List ℕ) → List ℕ → ℕ → List ℕ → Type 0
-IsDue verdicts.Legal source' bytes most line =
+-- the line that is owed where this was found
+abbrev pub IsOwedLine : Verdict → Option (List ℕ × List ℕ) → List ℕ → ℕ → List ℕ → Type 0
+IsOwedLine verdicts.Legal source' bytes most line =
     IsAll source' bytes most
     × ((entries : ℕ) × (judged : IsJudged bytes (Legal entries))
     × (line ≡ judgement_line judged.profile (Legal entries)))
-IsDue verdicts.Illegal source' bytes most line =
+IsOwedLine verdicts.Illegal source' bytes most line =
     IsAll source' bytes most
     × ((place : ℕ) × (why : Why) × (judged : IsJudged bytes (Illegal place why))
     × (line ≡ judgement_line judged.profile (Illegal place why)))
-IsDue verdicts.NotAJournal source' bytes most line =
+IsOwedLine verdicts.NotAJournal source' bytes most line =
     (offset : ℕ) × InputStopsAt source' bytes most offset × (line ≡ stop_line offset)
 
 -- What holds at each ending: of the source and the sink after it, and of the bytes taken, which are
@@ -86,11 +86,11 @@ IsDue verdicts.NotAJournal source' bytes most line =
 abbrev pub EndsAs : End → Option (List ℕ × List ℕ) → Option (List ℕ) → Option (List ℕ) → List ℕ → ℕ
     → Type 0
 EndsAs (ends.Over verdict) source' sink sink' bytes most =
-    (line : List ℕ) × IsDue verdict source' bytes most line × Takes sink sink' line
+    (line : List ℕ) × IsOwedLine verdict source' bytes most line × Takes sink sink' line
 EndsAs ends.ReadFault source' sink sink' bytes most =
     AreLines bytes × (length bytes < most) × (sink' ≡ sink)
 EndsAs ends.WriteFault source' sink sink' bytes most =
-    (verdict : Verdict) × (line : List ℕ) × IsDue verdict source' bytes most line
+    (verdict : Verdict) × (line : List ℕ) × IsOwedLine verdict source' bytes most line
     × TakesFront sink sink' line
 EndsAs ends.NoMemory source' sink sink' bytes most = sink' ≡ sink
 EndsAs ends.Long source' sink sink' bytes most =
@@ -135,7 +135,7 @@ abbrev pub judgement_status : Judgement → ℕ
 judgement_status (Legal entries) = 0
 judgement_status (Illegal place why) = 8
 
--- the status is that of the list's judgement, or memory was wanting
+-- the status is that of the list's judgement, or memory ran out
 abbrev pub IsStatusOf : ℕ → Profile → ℕ → List Entry → Type 0
 IsStatusOf status profile place list =
     ((judgement : Judgement) × Judges profile place list judgement

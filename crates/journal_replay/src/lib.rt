@@ -2,8 +2,8 @@
 #![tactic(auto)]
 
 mod replay;
+mod replay_verdict;
 mod replayer;
-mod verdict;
 
 pub use replay::run_replay;
-pub use verdict::{End, Verdict};
+pub use replay_verdict::{End, Verdict};

@@ -16,8 +16,8 @@ use stream_run::run;
 ///
 /// The status is 0 where the input is a journal whose entries are a legal history from no items and
 /// no fault; 8 where it is a journal and they are not; 3 where it is no journal, told as soon as a
-/// line is none of its place; 4 and 5 where the source or the sink failed; 6 where memory was
-/// wanting; 7 where the most bytes were taken and the lines among them are those of a journal. The
+/// line is none of its place; 4 and 5 where the source or the sink failed; 6 where it ran out of
+/// memory; 7 where the most bytes were taken and the lines among them are those of a journal. The
 /// first of these in time decides.
 pub fn run_replay<S: Source, T: Sink>(alloc: Global, most: u64, source: &mut S, sink: &mut T) -> u8
     requires most { most ≤ 2 ^ 40 }
@@ -36,12 +36,14 @@ pub fn run_replay<S: Source, T: Sink>(alloc: Global, most: u64, source: &mut S, 
     ensures judged { (profile : Profile) (place : ℕ) (list : List Entry)
         → TellsJournal (S.told source.old) most profile place list
         → (Rose (S.faults source.old) (S.faults source.new) → ⊥)
-        → (Rose (T.faults sink.old) (T.faults sink.new) → ⊥) → IsStatusOf result profile place list }
+        → (Rose (T.faults sink.old) (T.faults sink.new) → ⊥)
+        → IsStatusOf result profile place list }
 
     // Where the input is none and neither fails, that is told, if memory is there.
     ensures refused { TellsNoJournal (S.told source.old) most
         → (Rose (S.faults source.old) (S.faults source.new) → ⊥)
-        → (Rose (T.faults sink.old) (T.faults sink.new) → ⊥) → (result ≡ 3) ⊎ (result ≡ 6) }
+        → (Rose (T.faults sink.old) (T.faults sink.new) → ⊥)
+        → (result ≡ 3) ⊎ (result ≡ 6) }
 {
     let mut replayer = Replayer::new(alloc);
     run(most, &mut replayer, source, sink).status()

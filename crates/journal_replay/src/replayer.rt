@@ -58,7 +58,7 @@ impl Replayer {
 
 impl Consumer for Replayer {
     ghost use Rattle.std.specs.Prelude.{length, []};
-    ghost use Rattle.journal_replay.specs.Progress.{Went, Waits, Gave, Breaks, Closes, Lacks};
+    ghost use Rattle.journal_replay.specs.Progress.{Went, Waits, Gave, Lacks};
 
     type Over = Verdict;
 
@@ -68,17 +68,11 @@ impl Consumer for Replayer {
 
     ghost gave = { Gave };
 
-    ghost breaks = { λ broken first now. Breaks broken.over };
-
-    ghost closes = { Closes };
-
     ghost lacks = { Lacks };
 
     ghost work = { λ now. length now.reader.held };
 
-    ghost head = { λ now. now.line.items };
-
-    ghost body = { λ now. [] };
+    ghost parts = { λ now. (now.line.items, []) };
 
     fn feed(&mut self, piece: &[u8]) -> Result<(), NoMemory> {
         self.reader.feed(piece)
@@ -117,11 +111,7 @@ impl Consumer for Replayer {
         }
     }
 
-    fn head(&self) -> &[u8] {
-        self.line.as_slice()
-    }
-
-    fn body(&self) -> &[u8] {
-        &[]
+    fn parts(&self) -> (&[u8], &[u8]) {
+        (self.line.as_slice(), &[])
     }
 }

@@ -1,12 +1,12 @@
 use Rattle.std.proofs.Common.{[], ◌++◌, ◌∙◌, ap}
-use Rattle.journal_text.specs.Verdict.{judgement_line}
+use Rattle.journal_text.specs.JudgingLine.{judgement_line}
 use Rattle.journal_replay.proofs.EndingLemmas.{finds_judged}
 use Rattle.journal_replay.proofs.LineLemmas.{line_only}
 use Rattle.journal_replay.proofs.replayer.ReplayerConsumer.finish.Goals as goal
 
 pub returns-in_ok-write_judgement-in-None-clause-over :
     goal.returns-in_ok-write_judgement-in-None-clause-over
-returns-in_ok-write_judgement-in-None-clause-over c = λ first taken due went. (
+returns-in_ok-write_judgement-in-None-clause-over c = λ first taken given went. (
   went.1,
   finds_judged c.verdict-judgement.result.now c.verdict_of.result taken c.args.self.now.reader
       c.args.self.now.checker

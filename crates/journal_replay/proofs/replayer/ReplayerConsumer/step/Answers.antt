@@ -11,14 +11,14 @@ take-requires-clause-few c =
     took.started
 
 pub returns-in-Head-clause-did : goal.returns-in-Head-clause-did
-returns-in-Head-clause-did c = λ is first taken due went.
+returns-in-Head-clause-did c = λ is first taken given went.
     let took = c.in-Head.ensures.head in (
       (
         head_at taken c.in-Head.profile c.in-Head.place c.args.self.now.reader c.next.new.self
             c.args.self.now.checker
             c.new.result took.1 went.0 (c.in-Head.ensures.reads taken) took.2.is_whole
-            c.new.ensures.profile c.new.ensures.first c.new.ensures.taken,
-        none_more due c.args.self.now.line.items went.1 went.2,
+            c.new.ensures.profile c.new.ensures.first_place c.new.ensures.taken,
+        none_more given c.args.self.now.line.items went.1 went.2,
         went.2,
       ),
       none_last
@@ -26,14 +26,15 @@ returns-in-Head-clause-did c = λ is first taken due went.
     )
 
 pub returns-in-Ok-clause-did : goal.returns-in-Ok-clause-did
-returns-in-Ok-clause-did c = λ is first taken due went.
+returns-in-Ok-clause-did c = λ is first taken given went.
     let took = c.in-Entry.ensures.entry in (
       (
         entry_at taken c.in-Entry.entry c.args.self.now.reader c.next.new.self
             c.args.self.now.checker
             c.take.new.self took.profile took.started went.0 (c.in-Entry.ensures.reads taken)
-            took.takes.is_whole c.in-Ok.ensures.profile c.in-Ok.ensures.first c.in-Ok.ensures.taken,
-        none_more due c.args.self.now.line.items went.1 went.2,
+            took.takes.is_whole c.in-Ok.ensures.profile c.in-Ok.ensures.first_place
+            c.in-Ok.ensures.taken,
+        none_more given c.args.self.now.line.items went.1 went.2,
         went.2,
       ),
       none_last
@@ -41,7 +42,7 @@ returns-in-Ok-clause-did c = λ is first taken due went.
     )
 
 pub returns-in-Ok-write_stop-clause-over : goal.returns-in-Ok-write_stop-clause-over
-returns-in-Ok-write_stop-clause-over c = λ first taken due went. (
+returns-in-Ok-write_stop-clause-over c = λ first taken given went. (
   went.1,
   (
     c.in-NotAJournal.offset,
