@@ -1,6 +1,7 @@
 //! The top call of a replay.
-ghost use Rattle.std.specs.Prelude.{◌≡◌, ◌⊎◌, ◌≤◌, ◌^◌, ℕ, List, Option, IsTrue};
+ghost use Rattle.std.specs.Prelude.{◌≡◌, ◌⊎◌, ◌≤◌, ℕ, List, Option, IsTrue};
 ghost use Rattle.asp_base.specs.Causes.{Rose};
+ghost use Rattle.asp_base.specs.Limits.{most_input};
 ghost use Rattle.session_machine.specs.declared.profile.Profile.{Profile};
 ghost use Rattle.session_machine.specs.declared.entry.Entry.{Entry};
 ghost use Rattle.journal_replay.specs.Replay.{End, IsReplay, IsStatusOf, TellsJournal, TellsNoJournal, status_number};
@@ -20,7 +21,7 @@ use stream_run::run;
 /// memory; 7 where the most bytes were taken and the lines among them are those of a journal. The
 /// first of these in time decides.
 pub fn run_replay<S: Source, T: Sink>(alloc: Global, most: u64, source: &mut S, sink: &mut T) -> u8
-    requires most { most ≤ 2 ^ 40 }
+    requires most { most ≤ most_input }
 
     // There is one ending, whose number is the status, and one replay that ended so.
     ensures replay { (end : End) × (result ≡ status_number end)

@@ -1,5 +1,6 @@
 //! What a replay finds.
 
+use asp_base::status;
 use stream_run::Status;
 
 /// What a replay finds.
@@ -23,9 +24,9 @@ impl Status for Verdict {
 
     fn number(&self) -> u8 {
         match self {
-            Verdict::Legal => 0,
-            Verdict::NotAJournal => 3,
-            Verdict::Illegal => 8,
+            Verdict::Legal => status::DONE,
+            Verdict::NotAJournal => status::NOT_WHOLE,
+            Verdict::Illegal => status::ILLEGAL,
         }
     }
 }
