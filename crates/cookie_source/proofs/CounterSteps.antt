@@ -36,7 +36,7 @@ all_below xs m n le all k d h = let t : get_or xs k d < m = all k d h in omega a
 drawer_at_more : (first m n : ℕ) (v : DrawerView) → m ≤ n → IsDrawer first m v → IsDrawer first n v
 drawer_at_more first m n v le f =
     let seen = f.saw_no_more in record {
-      first_cookie = f.first_cookie;
+      same_first = f.same_first;
       saw_no_more =
           omega arith;
       drew_below = all_below v.drawn m n le f.drew_below;
@@ -65,7 +65,7 @@ begins first = record {
         → IsDrawer first first v
     each zero v e = subst (IsDrawer first first) (some-injective _ _ e)
         record {
-          first_cookie = refl;
+          same_first = refl;
           saw_no_more = omega arith;
           drew_below =
               All-nil (λ n. n < first);
@@ -92,7 +92,7 @@ splits first by v s h me =
           (subst (λ (l : List DrawerView). get_elem? l j ≡ some u) same t))
           (λ (t : nothing_drawn v ≡ u). subst (IsDrawer first counter) t
           record {
-            first_cookie = f.first_cookie;
+            same_first = f.same_first;
             saw_no_more = f.saw_no_more;
             drew_below =
                 All-nil (λ n. n < counter);
@@ -104,10 +104,10 @@ splits first by v s h me =
 sees : (first : ℕ) (s : CounterState) (h : IsCounted first s) (by : ℕ) (v : DrawerView)
     → get_elem? s.views by ≡ some v
     → IsCounted first (with_words (set s.words 0 (slice_index s.words 0)) s
-    (set s.views by (drawer_view v.first v.drawn (slice_index s.words 0))))
+    (set s.views by (drawer_view v.first_cookie v.drawn (slice_index s.words 0))))
 sees first s h by v me =
     let counter : ℕ = slice_index s.words 0 in
-    let w = drawer_view v.first v.drawn counter in
+    let w = drawer_view v.first_cookie v.drawn counter in
     let f = h.each by v me in
     subst (λ (words : List ℕ). IsCounted first (with_words words s (set s.views by w)))
     (sym (set-get_or s.words 0 0)) record {
@@ -121,7 +121,7 @@ sees first s h by v me =
       );
       each = each_set first counter counter by s.views w (omega arith) h.each
           record {
-            first_cookie = f.first_cookie;
+            same_first = f.same_first;
             saw_no_more = omega arith;
             drew_below =
                 f.drew_below;
@@ -135,14 +135,14 @@ looks first slots by m s h wide me _ =
     let counter : ℕ = slice_index s.words 0 in
     let f = h.each by m.0 me in
     let from = h.from_first in (
-      drawer_view m.0.first m.0.drawn counter,
+      drawer_view m.0.first_cookie m.0.drawn counter,
       keeps,
       tt,
       sees first s h by m.0 me,
       record {
         never_falls = f.saw_no_more;
         from_first =
-            subst (λ (k : ℕ). k ≤ counter) (sym f.first_cookie) from;
+            subst (λ (k : ℕ). k ≤ counter) (sym f.same_first) from;
         after_look = refl;
       },
     )
@@ -154,7 +154,7 @@ pub draws : (first slots by : ℕ) (m : DrawerSeat) (old : ℕ) → old < 2 ^ 63
 draws first slots by m old fits s h wide me _ =
     let counter : ℕ = slice_index s.words 0 in
     let f = h.each by m.0 me in
-    let low : m.0.first ≤ counter = subst (λ (k : ℕ). k ≤ counter) (sym f.first_cookie)
+    let low : m.0.first_cookie ≤ counter = subst (λ (k : ℕ). k ≤ counter) (sym f.same_first)
     h.from_first in
     let Goal : ℕ → Type 0 = λ n. (w : DrawerView) × (a : Act (Unit {0}))
     × Rattle.atomic_table.specs.Table.Valid s.homes m.1 a
@@ -163,7 +163,7 @@ draws first slots by m old fits s h wide me _ =
     (w, Rattle.atomic_table.specs.Table.carried_after m.1 a) in
     exchanged counter old (old + 1) Goal
     (λ hit.
-    let w = drawer_view m.0.first (m.0.drawn ++ counter ∷ []) counter in
+    let w = drawer_view m.0.first_cookie (m.0.drawn ++ counter ∷ []) counter in
     let long = h.one_word in
     let now : get_or (set s.words 0 (old + 1)) 0 0 ≡ old + 1 =
     get_or-set_same s.words 0 (old + 1) 0 (omega arith) in
@@ -186,7 +186,7 @@ draws first slots by m old fits s h wide me _ =
         each = subst (λ (n : ℕ). (j : ℕ) (v : DrawerView) → get_elem? (set s.views by w) j ≡ some v
             → IsDrawer first n v) (sym now)
             (each_set first counter (old + 1) by s.views w (omega arith) h.each record {
-              first_cookie = f.first_cookie;
+              same_first = f.same_first;
               saw_no_more = omega arith;
               drew_below = All-append (λ n. n < old + 1) m.0.drawn (counter ∷ [])
                   (all_below m.0.drawn counter (old + 1) (omega arith) f.drew_below)
@@ -203,7 +203,7 @@ draws first slots by m old fits s h wide me _ =
       },
     ))
     (λ miss. (
-      drawer_view m.0.first m.0.drawn counter,
+      drawer_view m.0.first_cookie m.0.drawn counter,
       keeps,
       tt,
       sees first s h by m.0 me,

@@ -16,7 +16,7 @@ last_of c = c.last
 
 -- the source that made the drawer, and its first cookie
 abbrev pub drawer_home : Drawer → TableId × ℕ
-drawer_home d = (d.seat.table_id, d.seat.me.0.first)
+drawer_home d = (d.seat.table_id, d.seat.me.0.first_cookie)
 
 -- the cookies that the drawer drew, in order
 abbrev pub drawn_by : Drawer → List ℕ

@@ -27,14 +27,17 @@ impl Model for PlainCookies {
 }
 
 impl PlainCookies {
-    /// Cookies from `first` to `last`, none of them drawn.
-    pub fn new(first: u64, last: u64) -> PlainCookies
-        requires positive { 1 ≤ first }
-        requires some { first ≤ last }
-        requires in_range { last < 2 ^ 63 }
-        ensures { result ≡ record { next = first; last = last } }
+    /// Cookies from `first_cookie` to `last_cookie`, none of them drawn.
+    pub fn new(first_cookie: u64, last_cookie: u64) -> PlainCookies
+        requires positive { 1 ≤ first_cookie }
+        requires some { first_cookie ≤ last_cookie }
+        requires in_range { last_cookie < 2 ^ 63 }
+        ensures { result ≡ record { next = first_cookie; last = last_cookie } }
     {
-        PlainCookies { next: first, last }
+        PlainCookies {
+            next: first_cookie,
+            last: last_cookie,
+        }
     }
 
     /// The next cookie, or `None` where the last one was drawn.
@@ -47,10 +50,10 @@ impl PlainCookies {
         ensures ends { IfNone result (self.new.next ≡ self.old.next) }
         ensures last { self.new.last ≡ self.old.last }
         // The j-th draw gives the j-th cookie, and one draw more is counted.
-        ensures nth { (first j : ℕ) → first ≤ self.old.last
-            → self.old.next ≡ counter_after first self.old.last j
-            → (result ≡ nth_cookie first self.old.last j)
-            × (self.new.next ≡ counter_after first self.old.last (j + 1)) }
+        ensures nth { (first_cookie j : ℕ) → first_cookie ≤ self.old.last
+            → self.old.next ≡ counter_after first_cookie self.old.last j
+            → (result ≡ nth_cookie first_cookie self.old.last j)
+            × (self.new.next ≡ counter_after first_cookie self.old.last (j + 1)) }
     {
         if self.next > self.last {
             return None;

@@ -9,7 +9,7 @@ use std::collections::LinkedList;
 /// It is the counter's first cookie, the cookies that this drawer drew, in order, and the counter's
 /// word that it last saw.
 pub struct DrawerView {
-    pub first: u64,
+    pub first_cookie: u64,
     pub drawn: LinkedList<u64>,
     pub seen: u64,
 }

@@ -39,25 +39,28 @@ impl CookieSource {
     ghost use Rattle.std.specs.Prelude.{◌++◌, ◌∷◌, ◌↔◌, IfSome, IsNone, IfNone};
     ghost use Rattle.cookie_source.specs.Source.{source_id, first_of, last_of, drawer_home, drawn_by, word_seen, IsNewDrawer};
 
-    /// A counter that stands at `first`, and 1 to 64 drawers, which have drawn nothing.
+    /// A counter that stands at `first_cookie`, and 1 to 64 drawers, which have drawn nothing.
     pub fn new<R>(
         _rt: &R,
         alloc: Global,
-        first: u64,
-        last: u64,
+        first_cookie: u64,
+        last_cookie: u64,
         drawers: u64,
     ) -> Result<FreshCookies, NoMemory>
-        requires positive { 1 ≤ first }
-        requires some { first ≤ last }
-        requires in_range { last < 2 ^ 63 }
+        requires positive { 1 ≤ first_cookie }
+        requires some { first_cookie ≤ last_cookie }
+        requires in_range { last_cookie < 2 ^ 63 }
         requires drawers { (1 ≤ drawers) × (drawers ≤ 64) }
-        ensures first { IfOk result (λ f. first_of f.source ≡ first) }
-        ensures last { IfOk result (λ f. last_of f.source ≡ last) }
+        ensures first_cookie { IfOk result (λ f. first_of f.source ≡ first_cookie) }
+        ensures last_cookie { IfOk result (λ f. last_of f.source ≡ last_cookie) }
         ensures drawers { IfOk result (λ f. length f.drawers.items ≡ drawers) }
         ensures new_drawers { IfOk result (λ f. All (IsNewDrawer f.source) f.drawers.items) }
     {
-        let (table, seat) = Table::of_words(alloc, &[first], &first)?;
-        let source = CookieSource { table, last };
+        let (table, seat) = Table::of_words(alloc, &[first_cookie], &first_cookie)?;
+        let source = CookieSource {
+            table,
+            last: last_cookie,
+        };
         let drawers = source.make_drawers(alloc, seat, drawers)?;
         Ok(FreshCookies { source, drawers })
     }
