@@ -15,8 +15,8 @@ draws ask = 0
 -- what an ask draws after j draws: the j-th cookie from the first on, 0 past the last; only an
 -- acquire draws
 abbrev pub draw_of : ℕ → ℕ → ℕ → Ask → ℕ
-draw_of first last j Acquire = unwrap_or (nth_cookie first last j) 0
-draw_of first last j ask = 0
+draw_of first_cookie last j Acquire = unwrap_or (nth_cookie first_cookie last j) 0
+draw_of first_cookie last j ask = 0
 
 -- how many cookies a deed draws
 abbrev pub deed_draws : Deed → ℕ
@@ -34,9 +34,9 @@ CookiesFit cookies = (0 < cookies.next) × (cookies.last < 2 ^ 63)
 
 -- The ask drew its cookie by counting.
 pub record DrawsNext (old new : Counter) (ask : Ask) (drawn : ℕ) : Type 0 where
-  pub nth : (first j : ℕ) → first ≤ old.last → old.next ≡ counter_after first old.last j
-      → (drawn ≡ draw_of first old.last j ask)
-      × (new.next ≡ counter_after first old.last (j + draws ask))
+  pub nth : (first_cookie j : ℕ) → first_cookie ≤ old.last → old.next ≡ counter_after first_cookie old.last j
+      → (drawn ≡ draw_of first_cookie old.last j ask)
+      × (new.next ≡ counter_after first_cookie old.last (j + draws ask))
   pub above : 0 < drawn → old.next ≤ drawn
   pub below : drawn < new.next
   pub rises : old.next ≤ new.next

@@ -31,17 +31,17 @@ state_of G desk = record {
 -- What the desk's keeper tells and counts are those after the history, each of whose counts of
 -- faults is one that a keeper of the type can have; and the cookies drawn in it are those from the
 -- first on, in order. None of the cookies left was drawn, or is held in the opening map.
-pub record DeskStandsFor (CanCount : ℕ → Type 0) (first : ℕ) (opening : List ℕ → Option Item)
+pub record DeskStandsFor (CanCount : ℕ → Type 0) (first_cookie : ℕ) (opening : List ℕ → Option Item)
     (count : ℕ) (list : List Entry) (desk : DeskState) : Type 0 where
   pub stands : StandsFor opening count list desk.told desk.faults
   pub counts : AllByRecursion (λ e. CanCount e.faults) list
-  pub next : desk.cookies.next ≡ counter_after first desk.cookies.last (draws_in list)
-  pub some : first ≤ desk.cookies.last
+  pub next : desk.cookies.next ≡ counter_after first_cookie desk.cookies.last (draws_in list)
+  pub some : first_cookie ≤ desk.cookies.last
   pub drawn : AllByRecursion (λ e. e.drawn < desk.cookies.next) list
   pub held : (key : List ℕ) → IsHeldBelow desk.cookies.next (opening key)
 
 -- a desk over a keeper of the type stands for the history
 abbrev pub HasHistory : {K : Type 0} → Ghosts K → ℕ → (List ℕ → Option Item) → ℕ → List Entry
     → DeskOf K → Type 0
-HasHistory G first opening count list desk =
-    DeskStandsFor G.can_count first opening count list (state_of G desk)
+HasHistory G first_cookie opening count list desk =
+    DeskStandsFor G.can_count first_cookie opening count list (state_of G desk)

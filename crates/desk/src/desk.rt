@@ -58,20 +58,21 @@ fn draw_for(cookies: &mut PlainCookies, ask: &Ask) -> u64
 }
 
 impl<K: Keeper> Desk<K> {
-    /// A desk over the keeper, with the cookies from `first` to `last`. It takes no memory.
-    pub fn new(alloc: Global, keeper: K, first: u64, last: u64) -> Desk<K>
-        requires positive { 1 ≤ first }
-        requires some { first ≤ last }
-        requires in_range { last < 2 ^ 63 }
+    /// A desk over the keeper, with the cookies from `first_cookie` to `last_cookie`. It takes no
+    /// memory.
+    pub fn new(alloc: Global, keeper: K, first_cookie: u64, last_cookie: u64) -> Desk<K>
+        requires positive { 1 ≤ first_cookie }
+        requires some { first_cookie ≤ last_cookie }
+        requires in_range { last_cookie < 2 ^ 63 }
         ensures { result ≡ record {
           keeper = keeper;
           cookies =
-              record { next = first; last = last };
+              record { next = first_cookie; last = last_cookie };
         } }
     {
         Desk {
             shard: Shard::new(alloc, keeper),
-            cookies: PlainCookies::new(first, last),
+            cookies: PlainCookies::new(first_cookie, last_cookie),
         }
     }
 
@@ -86,11 +87,11 @@ impl<K: Keeper> Desk<K> {
 
         // Behind each history that the desk stands for, the request's entry makes a history that it
         // stands for, and its cookie is the next by counting.
-        ensures stands { (first caller : ℕ) (opening : List ℕ → Option Item) (count : ℕ)
+        ensures stands { (first_cookie caller : ℕ) (opening : List ℕ → Option Item) (count : ℕ)
             (list : List Entry) → caller < 2 ^ 63
-            → HasHistory ⟦<K as Keeper>⟧ first opening count list self.old
-            → (result.drawn ≡ draw_of first self.old.cookies.last (draws_in list) request.ask)
-            × HasHistory ⟦<K as Keeper>⟧ first opening count
+            → HasHistory ⟦<K as Keeper>⟧ first_cookie opening count list self.old
+            → (result.drawn ≡ draw_of first_cookie self.old.cookies.last (draws_in list) request.ask)
+            × HasHistory ⟦<K as Keeper>⟧ first_cookie opening count
             (list ++ asked_entry caller t request result.drawn result.reply
             (K.count self.new.keeper) ∷ []) self.new }
 
@@ -109,17 +110,17 @@ impl<K: Keeper> Desk<K> {
         Acted { reply, drawn }
     }
 
-    /// Looks for an item that has expired at the moment `t`, in milliseconds, and removes the one
-    /// that expired first.
+    /// Looks for items that have expired at the moment `t`, in milliseconds, and removes the one
+    /// that expired before all others.
     pub fn sweep_one(&mut self, t: u64) -> Swept
         requires { t ≤ 2 ^ 62 }
 
         // Behind each history that the desk stands for, the look's entry makes a history that it
         // stands for.
-        ensures stands { (first caller : ℕ) (opening : List ℕ → Option Item) (count : ℕ)
+        ensures stands { (first_cookie caller : ℕ) (opening : List ℕ → Option Item) (count : ℕ)
             (list : List Entry) → caller < 2 ^ 63
-            → HasHistory ⟦<K as Keeper>⟧ first opening count list self.old
-            → HasHistory ⟦<K as Keeper>⟧ first opening count
+            → HasHistory ⟦<K as Keeper>⟧ first_cookie opening count list self.old
+            → HasHistory ⟦<K as Keeper>⟧ first_cookie opening count
             (list ++ swept_entry caller t result (K.count self.new.keeper) ∷ []) self.new }
 
         ensures nothing { result ≡ Swept.Nothing
@@ -133,7 +134,7 @@ impl<K: Keeper> Desk<K> {
         self.shard.sweep_one(t)
     }
 
-    /// How often the keeper failed.
+    /// The count of faults of the keeper.
     pub fn faults(&self) -> u64
         ensures { result ≡ K.count self.now.keeper }
     {
