@@ -11,7 +11,7 @@ use Rattle.visit_core.specs.declared.act.Ending.TheVariants.{Save, Keep, Abandon
 use Rattle.visit_core.specs.declared.terms.Need.{Need}
 use Rattle.visit_core.specs.declared.terms.Need.TheVariants.{Exclusive, ReadOnly, Off}
 use Rattle.visit_core.specs.Terms.{EndingFits}
-use Rattle.visit_command.specs.declared.words.PageWords.{PageWords}
+use Rattle.visit_command.specs.declared.visit_words.PageWords.{PageWords}
 
 -- ---- byte strings
 
@@ -37,8 +37,8 @@ are_digits digits most =
 -- the bytes that a word spells, at most so many: `x`, and two digits for each of them
 unfoldable pub byte_string : List ℕ → ℕ → Option (List ℕ)
 byte_string [] most = None
-byte_string (first ∷ digits) most =
-    if first == 120 && are_digits digits most then Some (bytes_of_digits digits) else None
+byte_string (letter ∷ digits) most =
+    if letter == 120 && are_digits digits most then Some (bytes_of_digits digits) else None
 
 -- ---- the words
 

@@ -1,9 +1,9 @@
 //! The command `visit`: one page's visit by the words of a command line.
 #![tactic(auto)]
 
-mod byte_string;
-mod visiting;
-mod words;
+mod hex_word;
+mod visit_outcome;
+mod visit_words;
 
-pub use visiting::visit;
-pub use words::{PageWords, read_visit, visit_port};
+pub use visit_outcome::visit;
+pub use visit_words::{PageWords, read_visit, visit_port};

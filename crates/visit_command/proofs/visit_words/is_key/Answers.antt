@@ -2,7 +2,7 @@ use Rattle.std.proofs.Common.{◌≡◌, false, length, sym, ◌∙◌, arith}
 use Rattle.std.specs.Prelude.{nat_lt}
 use Rattle.std.proofs.lemmas.Bool.Decides.{nat_tests}
 use Rattle.visit_command.proofs.KeyLemmas.{short_key, long_key}
-use Rattle.visit_command.proofs.words.is_key.Goals as goal
+use Rattle.visit_command.proofs.visit_words.is_key.Goals as goal
 
 pub returns-then-word-gt1 : goal.returns-then-word-gt1
 returns-then-word-gt1 c =

@@ -3,7 +3,7 @@ use Rattle.std.proofs.lemmas.List.{take_rest}
 use Rattle.hex.specs.Hex.{decode_of}
 use Rattle.visit_command.specs.Words.{are_digits, byte_string}
 use Rattle.visit_command.proofs.ByteStringLemmas.{string_read}
-use Rattle.visit_command.proofs.byte_string.read_byte_string.Goals as goal
+use Rattle.visit_command.proofs.hex_word.read_byte_string.Goals as goal
 
 -- what was decoded is what the word spells
 read : (c : goal.After-adopt) → (Some c.in-Ok.bytes.items ≡ byte_string c.args.word.now c.args.most)
@@ -17,7 +17,7 @@ read c =
     let decoded : decode_of (drop 1 word) ≡ Ok c.in-Ok.bytes.items = ap decode_of (sym whole)
     ∙ c.in-Ok.ensures.ok in
     string_read word c.in-Ok.bytes.items c.args.most c.in-len1-up.len_at_least
-    c.if-first-ne120.false good decoded
+    c.if-letter-ne120.false good decoded
 
 pub returns-in-Ok-clause-value : goal.returns-in-Ok-clause-value
 returns-in-Ok-clause-value c = rw c.adopt.ensures (read c).0

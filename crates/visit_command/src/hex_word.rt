@@ -1,4 +1,4 @@
-//! Byte strings, judged without memory and read.
+//! A word that spells bytes by hexadecimal digits, judged without memory and read.
 ghost use Rattle.std.specs.Prelude.{◌≡◌, ◌≤◌, IfOk, IfSome, is_some, length};
 ghost use Rattle.std.specs.List.{list_all};
 ghost use Rattle.visit_command.specs.Words.{is_digit, are_digits, byte_string};
@@ -23,10 +23,10 @@ fn are_digits(digits: &[u8], most: usize) -> bool
 pub fn is_byte_string(word: &[u8], most: usize) -> bool
     ensures { result ≡ is_some (byte_string word.now most) }
 {
-    let [first, digits @ ..] = word else {
+    let [letter, digits @ ..] = word else {
         return false;
     };
-    *first == b'x' && are_digits(digits, most)
+    *letter == b'x' && are_digits(digits, most)
 }
 
 /// The bytes that the word spells, at most `most`; `None` exactly where it spells none. The only
@@ -36,10 +36,10 @@ pub fn read_byte_string(alloc: Global, word: &[u8], most: usize) -> Result<Optio
     ensures value { IfOk result (λ bytes. bytes ≡ byte_string word.now most) }
     ensures short { IfOk result (λ bytes. IfSome bytes (λ b. length b ≤ most)) }
 {
-    let [first, digits @ ..] = word else {
+    let [letter, digits @ ..] = word else {
         return Ok(None);
     };
-    if *first != b'x' || !are_digits(digits, most) {
+    if *letter != b'x' || !are_digits(digits, most) {
         return Ok(None);
     }
     match hex::decode(alloc, digits) {

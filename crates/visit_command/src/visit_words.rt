@@ -4,14 +4,11 @@ ghost use Rattle.asp_messages.specs.Ranges.{KeyFits, MinutesFit};
 ghost use Rattle.visit_core.specs.Terms.{EndingFits};
 ghost use Rattle.visit_command.specs.Words.{port_of, key_of, need_of, minutes_of, bare_ending, ending_of, visit_of, port_in, PageWordsFit};
 
-use crate::byte_string::{is_byte_string, read_byte_string};
+use crate::hex_word::{is_byte_string, read_byte_string};
 use asp_base::{Bytes, NoMemory, read_number};
 use asp_messages::{MOST_BODY, MOST_KEY, MOST_MINUTES};
 use std::alloc::Global;
 use visit_core::{Ending, Need};
-
-/// The greatest number of a port.
-const LAST_PORT: u64 = 65_535;
 
 /// What the words of `visit` say.
 #[derive(Debug, Drop)]
@@ -30,7 +27,7 @@ fn port_of(word: &[u8]) -> Option<u64>
     ensures value { result ≡ port_of word.now }
     ensures fits { IfSome result (λ port. (0 < port) × (port ≤ 65535)) }
 {
-    let port = read_number(word, LAST_PORT)?;
+    let port = read_number(word, u64::from(u16::MAX))?;
     if port > 0 { Some(port) } else { None }
 }
 

@@ -1,14 +1,18 @@
 //! One visit by the words of a command line.
-ghost use Rattle.std.specs.Prelude.{◌≡◌, ◌≤◌, ◌⊎◌, ◌↔◌, ◌++◌, ◌∷◌, [], None, OnOk, OnErr, IfSome, map, string_bytes};
-ghost use Rattle.asp_base.specs.Causes.{Rose, HasCause};
-ghost use Rattle.asp_base.specs.Outside.{Takes, TakesFront};
+ghost use Rattle.std.specs.Prelude.{◌≡◌, ◌≤◌, ◌⊎◌, ◌↔◌, ◌++◌, ◌∷◌, [], None, IfSome, map, string_bytes};
+ghost use Rattle.asp_base.specs.Causes.{Rose};
+ghost use Rattle.asp_base.specs.WrittenLine.{WritesLine};
 ghost use Rattle.page_link.specs.Visits.{TellsReplies};
 ghost use Rattle.visit_core.specs.OutcomeText.{outcome_spelling};
 ghost use Rattle.visit_command.specs.Words.{visit_of};
-ghost use Rattle.visit_command.specs.Top.{outcome_status, WritesLine, IsVisitOf, EndsWithOutcome};
+ghost use Rattle.visit_command.specs.Top.{outcome_status, tellings, enough_replies, IsVisitOf, EndsWithOutcome};
 
-use crate::words::{read_visit, visit_port};
-use asp_base::{Clock, Failed, Sink, write_whole};
+use crate::visit_words::{read_visit, visit_port};
+use asp_base::status::{
+    DONE, GAVE_UP, LINK_FAULT, LOST_LOCK, NO_COMMAND, NO_MEMORY, NO_REPLY, REQUEST_REFUSED,
+    WRITE_FAULT,
+};
+use asp_base::{Clock, Failed, FixedText, Sink, write_text};
 use page_link::{Link, VisitEnd, run_visit};
 use std::alloc::Global;
 use std::rt::Clock as HostTime;
@@ -20,24 +24,12 @@ fn outcome_status(outcome: &Outcome) -> u8
     ensures { result ≡ outcome_status outcome.now }
 {
     match outcome {
-        Outcome::Done => 0,
-        Outcome::LostLocked { .. } | Outcome::LostMissing => 11,
-        Outcome::GaveUp { .. } => 12,
-        Outcome::LinkFault => 13,
-        Outcome::Refused { .. } => 14,
+        Outcome::Done => DONE,
+        Outcome::LostLocked { .. } | Outcome::LostMissing => LOST_LOCK,
+        Outcome::GaveUp { .. } => GAVE_UP,
+        Outcome::LinkFault => LINK_FAULT,
+        Outcome::Refused { .. } => REQUEST_REFUSED,
     }
-}
-
-/// Writes the text and a line feed. After `Failed` a front of them was taken.
-fn write_line<T: Sink>(sink: &mut T, text: &[u8]) -> Result<(), Failed>
-    ensures taken { OnOk result
-        (Takes (T.taken sink.old) (T.taken sink.new) (text.now ++ 10 ∷ [])) }
-    ensures in_part { OnErr result
-        (TakesFront (T.taken sink.old) (T.taken sink.new) (text.now ++ 10 ∷ [])) }
-    ensures cause { HasCause (T.faults sink.old) (T.faults sink.new) result }
-{
-    write_whole(sink, text)?;
-    write_whole(sink, b"\n")
 }
 
 /// Writes the outcome's spelling and a line feed, and answers the exit status.
@@ -47,10 +39,10 @@ fn write_outcome<T: Sink>(sink: &mut T, outcome: &Outcome) -> u8
     ensures fault { result ≡ 5 → Rose (T.faults sink.old) (T.faults sink.new) }
     ensures count { T.faults sink.old ≤ T.faults sink.new }
 {
-    let text = outcome_text(outcome);
-    match write_line(sink, text.as_slice()) {
+    let mut line = FixedText::<72>::new();
+    match write_text(sink, &mut line, outcome_text(outcome).as_slice(), b"\n") {
         Ok(()) => outcome_status(outcome),
-        Err(Failed) => 5,
+        Err(Failed) => WRITE_FAULT,
     }
 }
 
@@ -73,18 +65,8 @@ pub fn visit<R: Wait + HostTime, L: Link, T: Sink, C: Clock>(
         → (link.new ≡ link.old) × (sink.new ≡ sink.old) × (clock.new ≡ clock.old) }
     ensures visit { IfSome (visit_of (map string_bytes words.now)) (λ page.
         IsVisitOf page
-        (record {
-          link = L.told link.old;
-          pauses = L.pauses link.old;
-          clock = C.told clock.old;
-          sink = T.taken sink.old;
-        })
-        (record {
-          link = L.told link.new;
-          pauses = L.pauses link.new;
-          clock = C.told clock.new;
-          sink = T.taken sink.new;
-        })
+        (tellings (L.told link.old) (L.pauses link.old) (C.told clock.old) (T.taken sink.old))
+        (tellings (L.told link.new) (L.pauses link.new) (C.told clock.new) (T.taken sink.new))
         result) }
     ensures lost { result ≡ 13 → Rose (L.faults link.old) (L.faults link.new) }
     ensures fault { result ≡ 5 → Rose (T.faults sink.old) (T.faults sink.new) }
@@ -93,21 +75,21 @@ pub fn visit<R: Wait + HostTime, L: Link, T: Sink, C: Clock>(
 
     // Where neither link nor sink fails and enough whole replies come, the status is that of an
     // outcome, or 6; or the words are none of `visit`.
-    ensures complete { TellsReplies (L.told link.old) 3003
+    ensures complete { TellsReplies (L.told link.old) enough_replies
         → (Rose (L.faults link.old) (L.faults link.new) → ⊥)
         → (Rose (T.faults sink.old) (T.faults sink.new) → ⊥)
         → (result ≡ 2) ⊎ ((result ≡ 6) ⊎ EndsWithOutcome result) }
 {
     if visit_port(words).is_none() {
-        return 2;
+        return NO_COMMAND;
     }
     let Ok(Some(page)) = read_visit(alloc, words) else {
-        return 6;
+        return NO_MEMORY;
     };
     let mut visit = Visit::new(page.key, page.need, Limits::default());
     match run_visit(rt, alloc, &mut visit, page.ending, link, clock) {
         VisitEnd::Over(outcome) => write_outcome(sink, &outcome),
-        VisitEnd::BadReply => 15,
-        VisitEnd::NoMemory => 6,
+        VisitEnd::BadReply => NO_REPLY,
+        VisitEnd::NoMemory => NO_MEMORY,
     }
 }
