@@ -27,7 +27,7 @@ fn port_of(word: &[u8]) -> Option<u64>
     ensures value { result ≡ port_of word.now }
     ensures fits { IfSome result (λ port. (0 < port) × (port ≤ 65535)) }
 {
-    let port = read_number(word, u64::from(u16::MAX))?;
+    let port = read_number(word, u16::MAX as u64)?;
     if port > 0 { Some(port) } else { None }
 }
 
