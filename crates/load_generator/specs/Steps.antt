@@ -20,25 +20,25 @@ DeskHasAsked G seed requests desk = HasAsked G.can_count seed requests (state_of
 
 -- So many items were removed behind a history, and then a look removed none, or all the looks that
 -- may be made removed one.
-pub record Sweeps (CanCount : ℕ → Type 0) (first most : ℕ) (list : List Entry) (state : DeskState)
+pub record Sweeps (CanCount : ℕ → Type 0) (first_cookie most : ℕ) (list : List Entry) (state : DeskState)
     (removed : ℕ) : Type 0 where
   pub removals : List Entry
   pub looks : List Entry
   pub expired : AllByRecursion IsRemoval removals
   pub counted : length removals ≡ removed
   pub few : length removals + length looks ≤ most
-  pub desk : DeskStandsFor CanCount first nothing 0 (list ++ removals ++ looks) state
+  pub desk : DeskStandsFor CanCount first_cookie nothing 0 (list ++ removals ++ looks) state
   pub ends : ((looks ≡ []) × (removed ≡ most)) ⊎ EndsSweep state.told looks
 
 -- the same of a desk over a keeper of the type
 abbrev pub DeskSweeps : {K : Type 0} → Ghosts K → ℕ → ℕ → List Entry → DeskOf K → ℕ → Type 0
-DeskSweeps G first most list desk removed =
-    Sweeps G.can_count first most list (state_of G desk) removed
+DeskSweeps G first_cookie most list desk removed =
+    Sweeps G.can_count first_cookie most list (state_of G desk) removed
 
 -- so many items were removed behind a history
-pub record Removes (CanCount : ℕ → Type 0) (first : ℕ) (list : List Entry) (state : DeskState)
+pub record Removes (CanCount : ℕ → Type 0) (first_cookie : ℕ) (list : List Entry) (state : DeskState)
     (removed : ℕ) : Type 0 where
   pub removals : List Entry
   pub expired : AllByRecursion IsRemoval removals
   pub counted : length removals ≡ removed
-  pub desk : DeskStandsFor CanCount first nothing 0 (list ++ removals) state
+  pub desk : DeskStandsFor CanCount first_cookie nothing 0 (list ++ removals) state

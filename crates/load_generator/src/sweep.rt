@@ -14,9 +14,9 @@ use shard_core::Swept;
 /// how many were removed.
 pub fn sweep<K: Keeper>(desk: &mut Desk<K>, most: u64) -> u64
     requires { 0 < desk.old.cookies.next }
-    ensures sweeps { (first : ℕ) (list : List Entry)
-        → HasHistory ⟦<K as Keeper>⟧ first nothing 0 list desk.old
-        → DeskSweeps ⟦<K as Keeper>⟧ first most list desk.new result }
+    ensures sweeps { (first_cookie : ℕ) (list : List Entry)
+        → HasHistory ⟦<K as Keeper>⟧ first_cookie nothing 0 list desk.old
+        → DeskSweeps ⟦<K as Keeper>⟧ first_cookie most list desk.new result }
     ensures floor { K.floor desk.new.keeper ≡ K.floor desk.old.keeper }
 {
     let mut removed = 0;
