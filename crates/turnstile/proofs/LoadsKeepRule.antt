@@ -32,7 +32,8 @@ module _ {S E : Type 0} (stands : S → Terms → List E → Type 0) (caller : E
       saw m.0 (word s 0),
       keeps,
       tt,
-      loads stands caller terms s 0 by m.1 (saw m.0 (word s 0)) (saw_fits stands caller terms s o by m.0 me),
+      loads stands caller terms s 0 by m.1 (saw m.0 (word s 0))
+          (saw_fits stands caller terms s o by m.0 me),
       record { never_falls = f.saw; within_places = o.within_places; seen = refl },
     )
 
@@ -72,7 +73,8 @@ module _ {S E : Type 0} (stands : S → Terms → List E → Type 0) (caller : E
           w,
           keeps,
           tt,
-          next stands caller terms s o by v w ws s.homes o.log me (length-set s.words 0 (old + 1) ∙ three) (w1
+          next stands caller terms s o by v w ws s.homes o.log me
+              (length-set s.words 0 (old + 1) ∙ three) (w1
               ∙ o.served)
               (omega arith)
               (omega (arith, ap one_if free, w0, w1))
@@ -149,7 +151,8 @@ module _ {S E : Type 0} (stands : S → Terms → List E → Type 0) (caller : E
         calls_none caller c o.log below ∙ sym (calls_none caller c v.front (all_prefix caller
         (λ e. caller e < c) v.front o.log f.begins below)) in
         let rule : Rule (of ws s.homes (set s.views by w)) =
-        next stands caller terms s o by v w ws s.homes o.log me (length-set s.words 2 (c + 1) ∙ three) (w1 ∙ o.served)
+        next stands caller terms s o by v w ws s.homes o.log me
+        (length-set s.words 2 (c + 1) ∙ three) (w1 ∙ o.served)
         (let b = o.within_places in omega (arith, w0)) (omega (arith, w0, w1))
         (subst (λ (n : ℕ). All (λ e. caller e < n) o.log) (sym w2)
         (λ k d l. let t : caller (get_or o.log k d) < c = below k d l in omega arith))
@@ -211,20 +214,21 @@ module _ {S E : Type 0} (stands : S → Terms → List E → Type 0) (caller : E
           w,
           keeps,
           tt,
-          loads stands caller terms s i by m.1 w (stays stands caller terms s o by v w me refl (λ is. is) record {
-            begins = begins;
-            heard = prefix_nil o.log;
-            saw = f.saw;
-            waits = f.waits;
-            passes = f.passes;
-            enters = λ is. let x = f.enters is in (
-              x.0,
-              sym (prefix_whole o.log long (subst
-                  (λ (l : List E). IsPrefix l long) x.1 mine) (prefix_length long o.log begins)),
-            );
-            owns = λ n is. let x = f.owns n is in (x.0, x.1 ∙ sym (same n is));
-            counts = f.counts;
-          } (same_ticket s.views by v w refl) (same_number s.views by v w refl)
+          loads stands caller terms s i by m.1 w
+              (stays stands caller terms s o by v w me refl (λ is. is) record {
+                begins = begins;
+                heard = prefix_nil o.log;
+                saw = f.saw;
+                waits = f.waits;
+                passes = f.passes;
+                enters = λ is. let x = f.enters is in (
+                  x.0,
+                  sym (prefix_whole o.log long (subst
+                      (λ (l : List E). IsPrefix l long) x.1 mine) (prefix_length long o.log begins)),
+                );
+                owns = λ n is. let x = f.owns n is in (x.0, x.1 ∙ sym (same n is));
+                counts = f.counts;
+              } (same_ticket s.views by v w refl) (same_number s.views by v w refl)
               (same_count s.views by v w refl)),
           record { longer = refl; told = told; grows = record { longer = mine; same = same } },
         )
@@ -237,7 +241,9 @@ module _ {S E : Type 0} (stands : S → Terms → List E → Type 0) (caller : E
           v,
           keeps,
           tt,
-          loads stands caller terms s i by m.1 v (stays stands caller terms s o by v v me refl (λ is. is) f (same_ticket s.views by v v refl)
+          loads stands caller terms s i by m.1 v
+              (stays stands caller terms s o by v v me refl (λ is. is) f
+              (same_ticket s.views by v v refl)
               (same_number s.views by v v refl) (same_count s.views by v v refl)),
           record {
             same = refl;

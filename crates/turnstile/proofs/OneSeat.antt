@@ -79,7 +79,8 @@ module _ {S E : Type 0} (stands : S → Terms → List E → Type 0) (caller : E
         → get_or ws 1 0 + one_if w.ticket + word s 0 ≡ get_or ws 0 0 + one_if v.ticket + word s 1
         → All (λ e. caller e < get_or ws 2 0) log → Stored stands caller terms log (of ws hs
         (set s.views by w))
-        → FitsAt caller terms ws log w → ((j : ℕ) (u : SeatView E) → j ≢ by → get_elem? s.views j ≡ some u
+        → FitsAt caller terms ws log w
+        → ((j : ℕ) (u : SeatView E) → j ≢ by → get_elem? s.views j ≡ some u
         → FitsAt caller terms ws log u)
         → KeepsApart (λ u. u.ticket) s.views by v w → KeepsApart (λ u. u.number) s.views by v w
         → KeepsApart (λ u. mark u.count) s.views by v w
@@ -106,7 +107,8 @@ module _ {S E : Type 0} (stands : S → Terms → List E → Type 0) (caller : E
         }
 
     -- no word changes, and no slot
-    unfoldable pub stays : (s : St) (o : Rule s) (by : ℕ) (v w : SeatView E) → get_elem? s.views by ≡ some v
+    unfoldable pub stays : (s : St) (o : Rule s) (by : ℕ) (v w : SeatView E)
+        → get_elem? s.views by ≡ some v
         → one_if w.ticket ≡ one_if v.ticket → (v.inside ≡ true → w.inside ≡ true)
         → FitsAt caller terms s.words o.log w
         → KeepsApart (λ u. u.ticket) s.views by v w → KeepsApart (λ u. u.number) s.views by v w

@@ -33,10 +33,12 @@ module _ {S E : Type 0} (stands : S → Terms → List E → Type 0) (caller : E
         → Rule (of s.words s.homes (set s.views by l ++ r ∷ []))
     cut s o by v l r me ticket count inside number mine free uncounted given new =
         let k : Rule (of s.words s.homes (set s.views by l)) =
-        stays stands caller terms s o by v l me (ap one_if ticket) inside mine (same_ticket s.views by v l ticket)
+        stays stands caller terms s o by v l me (ap one_if ticket) inside mine
+        (same_ticket s.views by v l ticket)
         (λ n is. inl (number n is)) (same_count s.views by v l count) in
         let each : (j : ℕ) (u : SeatView E) → get_elem? (set s.views by l) j ≡ some u
-        → FitsAt caller terms s.words o.log u = each_set (λ _ u. FitsAt caller terms s.words o.log u) s.views by l mine
+        → FitsAt caller terms s.words o.log u = each_set
+        (λ _ u. FitsAt caller terms s.words o.log u) s.views by l mine
         (λ j u other e. o.each j u e) in
         record {
           log = o.log;
@@ -113,7 +115,8 @@ module _ {S E : Type 0} (stands : S → Terms → List E → Type 0) (caller : E
     -- the other seat is used up
     ends : (s : St) (o : Rule s) (other : ℕ) (w : SeatView E) → get_elem? s.views other ≡ some w
         → w.ticket ≡ None → w.inside ≡ false → Rule (of s.words s.homes (set s.views other used_up))
-    ends s o other w at free outside = stays stands caller terms s o other w used_up at (sym (ap one_if free)) (λ is.
+    ends s o other w at free outside = stays stands caller terms s o other w used_up at
+        (sym (ap one_if free)) (λ is.
         absurd
         (true≢false (sym is ∙ outside))) record {
           begins = prefix_nil o.log;
@@ -141,7 +144,8 @@ module _ {S E : Type 0} (stands : S → Terms → List E → Type 0) (caller : E
         let heard : IsPrefix w.front k.log = (o.each other w at').begins in
         subst (λ (vs : List (SeatView E)). Rule (of s.words s.homes vs))
         (sym (set_swap s.views by other u used_up apart))
-        (stays stands caller terms (of s.words s.homes (set s.views other used_up)) k by v u me' refl (λ is. is)
+        (stays stands caller terms (of s.words s.homes (set s.views other used_up)) k by v u me'
+        refl (λ is. is)
         record {
           begins = f.begins;
           heard = heard;

@@ -66,7 +66,8 @@ module _ {S E : Type 0} (stands : S → Terms → List E → Type 0) (caller : E
           home.1,
           subst (λ (ws : List ℕ). Rule (of ws (set s.homes 0 none) (set s.views by w)))
               (sym (set-get_or s.words 1 0))
-              (next stands caller terms s o by v w s.words (set s.homes 0 none) o.log me o.wide o.served o.within_places
+              (next stands caller terms s o by v w s.words (set s.homes 0 none) o.log me o.wide
+              o.served o.within_places
               (omega arith) o.numbered (inr (by, w, here, refl))
               (record {
                 begins = prefix_same o.log;
@@ -103,7 +104,8 @@ module _ {S E : Type 0} (stands : S → Terms → List E → Type 0) (caller : E
           v,
           keeps,
           tt,
-          loads stands caller terms s 1 by m.1 v (stays stands caller terms s o by v v me refl (λ is. is) f (same_ticket s.views by v v
+          loads stands caller terms s 1 by m.1 v
+              (stays stands caller terms s o by v v me refl (λ is. is) f (same_ticket s.views by v v
               refl)
               (same_number s.views by v v refl) (same_count s.views by v v refl)),
           λ t' e. let same : t ≡ t' = one_number t t' v.ticket holds e in
@@ -147,7 +149,8 @@ module _ {S E : Type 0} (stands : S → Terms → List E → Type 0) (caller : E
         let alone : (j : ℕ) (u : SeatView E) → j ≢ by → get_elem? s.views j ≡ some u
         → u.ticket ≡ Some c → ⊥ = λ j u other d is. other (o.tickets j by c u v d me is has) in
         let rule : Rule (of ws hs (set s.views by w)) =
-        next stands caller terms s o by v w ws hs log me (length-set s.words 1 (c + 1) ∙ three) (omega (arith, w1))
+        next stands caller terms s o by v w ws hs log me (length-set s.words 1 (c + 1) ∙ three)
+        (omega (arith, w1))
         (omega (arith, w0)) (omega (arith, w0, w1, ap one_if has))
         (subst (λ (n : ℕ). All (λ x. caller x < n) log) (sym w2)
         (All-append (λ x. caller x < word s 2) o.log (e ∷ []) o.numbered
