@@ -26,6 +26,14 @@ IsFault failure = error_of failure ≡ Fault
 abbrev pub FailsByRow : {T : Type 0} → Result T Failure → Type 0
 FailsByRow result = IfErr result (λ failure. failure ≡ BadRow)
 
+-- no value is such
+abbrev pub NoValueIs : {T : Type 0} → (T → Type 0) → Type 0
+NoValueIs {T} P = (value : T) → P value → ⊥
+
+-- where a call fails with a fault, no value is such
+abbrev pub FaultMeansNone : {T : Type 0} → Result T Failure → (T → Type 0) → Type 0
+FaultMeansNone result P = IfErr result (λ failure. IsFault failure → NoValueIs P)
+
 -- a query's one row, `None` where it has none
 abbrev pub found_of : {R : Type 0} → Result R Error → Result (Option R) Error
 found_of (Ok row) = Ok (Some row)

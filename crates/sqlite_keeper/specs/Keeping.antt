@@ -5,7 +5,7 @@ use Rattle.asp_base.specs.InMemory.{one_more}
 use Rattle.keeper.specs.declared.errors.KeepError.{KeepError}
 use Rattle.keeper.specs.declared.errors.KeepError.TheVariants.{Fault, NoMemory}
 
--- A keeper over a connection, and how often it failed.
+-- A keeper over a connection, and its count of faults.
 pub record OverDatabase (C : Type 0) : Type 0 where
   pub connection : C
   pub faults : ℕ
@@ -16,12 +16,12 @@ over_database_code {C} connection =
     code_by (C × ℕ) (coded× connection coded_ℕ) (λ k. (k.connection, k.faults))
     (λ p. record { connection = p.0; faults = p.1 }) (λ _. refl)
 
--- the count of its failures, up to the last value of a `u64`
-abbrev pub failures : ℕ → ℕ
-failures faults = min faults (2 ^ 64 - 1)
+-- the count of faults that it tells, up to the last value of a `u64`
+abbrev pub told_faults : ℕ → ℕ
+told_faults faults = min faults (2 ^ 64 - 1)
 
 -- the count after an answer: a fault counts one, and nothing else does
-abbrev pub count_after : {T : Type 0} → ℕ → Result T KeepError → ℕ
-count_after faults (Ok value) = faults
-count_after faults (Err NoMemory) = faults
-count_after faults (Err Fault) = one_more faults
+abbrev pub faults_after : {T : Type 0} → ℕ → Result T KeepError → ℕ
+faults_after faults (Ok value) = faults
+faults_after faults (Err NoMemory) = faults
+faults_after faults (Err Fault) = one_more faults

@@ -23,22 +23,51 @@ abbrev pub flag_number : Bool → ℕ
 flag_number false = 0
 flag_number true = 1
 
--- the column is this number
+-- the value at this place of a row is this number
 abbrev pub IsNumberAt : List Value → ℕ → ℕ → Type 0
-IsNumberAt row at n = column row at ≡ Int (pos n)
+IsNumberAt row place n = column row place ≡ Int (pos n)
+
+-- the places of an item's columns in a row that was read: those that both tables have, those that
+-- only `items2` has behind them, and that of `expiry` in `items`
+abbrev pub body_at : ℕ
+body_at = 0
+
+abbrev pub minutes_at : ℕ
+minutes_at = 1
+
+abbrev pub fresh_at : ℕ
+fresh_at = 2
+
+abbrev pub cookie_at : ℕ
+cookie_at = 3
+
+abbrev pub since_at : ℕ
+since_at = 4
+
+abbrev pub touched_at : ℕ
+touched_at = 5
+
+abbrev pub ends_at : ℕ
+ends_at = 6
+
+abbrev pub expiry_at : ℕ
+expiry_at = 7
+
+abbrev pub old_expiry_at : ℕ
+old_expiry_at = 6
 
 -- the cookie of a lock, where there is one, is in range
-abbrev pub CookieFits : Option Hold → Type 0
-CookieFits lock = IfSome lock (λ hold. (0 < hold.cookie) × (hold.cookie < 2 ^ 63))
+abbrev pub LockCookieFits : Option Hold → Type 0
+LockCookieFits lock = IfSome lock (λ hold. (0 < hold.cookie) × (hold.cookie < 2 ^ 63))
 
 -- the moment of a lock's acquisition, where there is a lock, is in range
-abbrev pub SinceFits : Option Hold → Type 0
-SinceFits lock = IfSome lock (λ hold. hold.since ≤ 2 ^ 62)
+abbrev pub LockSinceFits : Option Hold → Type 0
+LockSinceFits lock = IfSome lock (λ hold. hold.since ≤ 2 ^ 62)
 
 -- These two numbers say this lock, which is in range, or that there is none.
 pub record SaysLock (cookie since : ℕ) (lock : Option Hold) : Type 0 where
-  pub cookie_fits : CookieFits lock
-  pub since_fits : SinceFits lock
+  pub cookie_fits : LockCookieFits lock
+  pub since_fits : LockSinceFits lock
   pub cookie_is : cookie ≡ cookie_of lock
   pub since_is : since ≡ since_of lock
 
@@ -46,34 +75,30 @@ pub record SaysLock (cookie since : ℕ) (lock : Option Hold) : Type 0 where
 -- `touched` are the item's.
 pub record BeginsWith (row : List Value) (item : Item) : Type 0 where
   pub fits : ItemFits item
-  pub body : column row 0 ≡ Blob item.body
-  pub minutes : IsNumberAt row 1 item.minutes
-  pub fresh : IsNumberAt row 2 (flag_number item.fresh)
-  pub cookie : IsNumberAt row 3 (cookie_of item.holder)
-  pub since : IsNumberAt row 4 (since_of item.holder)
-  pub touched : IsNumberAt row 5 item.touched
+  pub body : column row body_at ≡ Blob item.body
+  pub minutes : IsNumberAt row minutes_at item.minutes
+  pub fresh : IsNumberAt row fresh_at (flag_number item.fresh)
+  pub cookie : IsNumberAt row cookie_at (cookie_of item.holder)
+  pub since : IsNumberAt row since_at (since_of item.holder)
+  pub touched : IsNumberAt row touched_at item.touched
 
 -- A row of `items2` says an item: it begins with it, and its columns `ends` and `expiry` are the
 -- item's.
 pub record SaysItem (row : List Value) (item : Item) : Type 0 where
   pub begins : BeginsWith row item
-  pub ends : IsNumberAt row 6 item.ends
-  pub expiry : IsNumberAt row 7 (expiry item)
+  pub ends : IsNumberAt row ends_at item.ends
+  pub expiry : IsNumberAt row expiry_at (expiry item)
 
 -- A row of `items` says an item: it begins with it, its column `expiry` is the item's, and the item
 -- has no end before the last moment of all.
 pub record SaysOldItem (row : List Value) (item : Item) : Type 0 where
   pub begins : BeginsWith row item
   pub ends : item.ends ≡ 2 ^ 63 - 1
-  pub expiry : IsNumberAt row 6 (expiry item)
+  pub expiry : IsNumberAt row old_expiry_at (expiry item)
 
 -- a row says a key: the key is in range, and the column at this place is it
 abbrev pub SaysKey : List Value → ℕ → List ℕ → Type 0
-SaysKey row at key = KeyFits key × (column row at ≡ Blob key)
-
--- no value is such
-abbrev pub HasNone : {T : Type 0} → (T → Type 0) → Type 0
-HasNone {T} P = (value : T) → P value → ⊥
+SaysKey row place key = KeyFits key × (column row place ≡ Blob key)
 
 -- what a row of `items2` holds of a key and its item
 abbrev pub columns_of : List ℕ → Item → List Value

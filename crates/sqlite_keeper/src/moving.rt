@@ -13,7 +13,7 @@ fn move_first<S: Alter>(connection: &mut Connection<S>) -> Result<bool, Failure>
     let Some(row) = statements::first_row(connection)? else {
         return Ok(false);
     };
-    let key = rows::key(&row, 7)?;
+    let key = rows::key(&row, rows::OLD_KEY)?;
     let item = rows::old_item(&row)?;
     statements::move_row(connection, &rows::columns(&key, &item))?;
     statements::drop_row(connection, key.as_slice())?;

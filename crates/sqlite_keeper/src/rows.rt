@@ -1,12 +1,12 @@
 //! What the rows of an answer say: an item, or a key; and what a row holds of both.
-ghost use Rattle.std.specs.Prelude.{◌≡◌, ◌≢◌, ◌<◌, IfOk, IfErr, OnOk, OnErr};
+ghost use Rattle.std.specs.Prelude.{◌≡◌, ◌≢◌, ◌<◌, IfOk, OnOk, OnErr};
 ghost use Rattle.session_machine.specs.Liveness as liveness;
 ghost use Rattle.sqlite_value.specs.declared.value.Value.TheVariants.{Blob};
 ghost use Rattle.sqlite_value.specs.Order.{column};
 ghost use Rattle.sqlite.specs.Values.{bound};
-ghost use Rattle.sqlite_keeper.specs.Failures.{FailsByRow, IsFault};
-ghost use Rattle.sqlite_keeper.specs.Rows.{BeginsWith, CookieFits, HasNone, IsNumberAt, SaysItem};
-ghost use Rattle.sqlite_keeper.specs.Rows.{SaysKey, SaysLock, SaysOldItem, SinceFits};
+ghost use Rattle.sqlite_keeper.specs.Failures.{FailsByRow, FaultMeansNone, NoValueIs};
+ghost use Rattle.sqlite_keeper.specs.Rows.{BeginsWith, IsNumberAt, LockCookieFits, LockSinceFits};
+ghost use Rattle.sqlite_keeper.specs.Rows.{SaysItem, SaysKey, SaysLock, SaysOldItem};
 ghost use Rattle.sqlite_keeper.specs.Rows.{columns_of, flag_number};
 
 use crate::failure::Failure;
@@ -20,28 +20,53 @@ use sqlite::types::ValueRef;
 /// also the greatest end.
 pub(crate) const NO_END: u64 = 0x7fff_ffff_ffff_ffff;
 
-/// The number in a column.
-fn number(row: &Row, at: usize) -> Result<u64, Failure>
-    ensures ok { IfOk result (IsNumberAt row.now at) }
-    ensures fault { IfErr result (λ f. IsFault f → HasNone (IsNumberAt row.now at)) }
+/// The places of an item's columns in a row that was read.
+const BODY: usize = 0;
+
+const MINUTES: usize = 1;
+
+const FRESH: usize = 2;
+
+const COOKIE: usize = 3;
+
+const SINCE: usize = 4;
+
+const TOUCHED: usize = 5;
+
+/// Behind those, in a row of `items2`.
+const ENDS: usize = 6;
+
+const EXPIRY: usize = 7;
+
+/// Behind those, in a row of `items`.
+const OLD_EXPIRY: usize = 6;
+
+pub(crate) const OLD_KEY: usize = 7;
+
+/// The place of the key in a row that has nothing else.
+pub(crate) const KEY: usize = 0;
+
+/// The number at this place of a row.
+fn number(row: &Row, place: usize) -> Result<u64, Failure>
+    ensures ok { IfOk result (IsNumberAt row.now place) }
+    ensures fault { FaultMeansNone result (IsNumberAt row.now place) }
 {
-    Ok(row.get(at)?)
+    Ok(row.get(place)?)
 }
 
-/// The bytes in a column.
-fn bytes(row: &Row, at: usize) -> Result<Bytes, Failure>
-    ensures ok { IfOk result (λ bytes. column row.now at ≡ Blob bytes) }
-    ensures fault { IfErr result (λ f. IsFault f
-        → HasNone (λ bytes. column row.now at ≡ Blob bytes)) }
+/// The bytes at this place of a row.
+fn bytes(row: &Row, place: usize) -> Result<Bytes, Failure>
+    ensures ok { IfOk result (λ bytes. column row.now place ≡ Blob bytes) }
+    ensures fault { FaultMeansNone result (λ bytes. column row.now place ≡ Blob bytes) }
 {
-    let bytes = row.get(at)?;
+    let bytes = row.get(place)?;
     Ok(Bytes::adopt(bytes))
 }
 
 /// The flag that a number stands for.
 fn flag(number: u64) -> Result<bool, Failure>
     ensures ok { IfOk result (λ flag. flag_number flag ≡ number) }
-    ensures none { OnErr result (HasNone (λ flag. flag_number flag ≡ number)) }
+    ensures none { OnErr result (NoValueIs (λ flag. flag_number flag ≡ number)) }
     ensures bad { FailsByRow result }
 {
     match number {
@@ -54,7 +79,7 @@ fn flag(number: u64) -> Result<bool, Failure>
 /// The lock that the two numbers say, `None` where both are 0.
 fn holder(cookie: u64, since: u64) -> Result<Option<Hold>, Failure>
     ensures ok { IfOk result (SaysLock cookie since) }
-    ensures none { OnErr result (HasNone (SaysLock cookie since)) }
+    ensures none { OnErr result (NoValueIs (SaysLock cookie since)) }
     ensures bad { FailsByRow result }
 {
     if cookie == 0 && since == 0 {
@@ -68,8 +93,8 @@ fn holder(cookie: u64, since: u64) -> Result<Option<Hold>, Failure>
 
 /// The item, where its content and numbers are in range.
 fn in_range(item: Item) -> Result<Item, Failure>
-    requires cookie { CookieFits item.holder }
-    requires since { SinceFits item.holder }
+    requires cookie { LockCookieFits item.holder }
+    requires since { LockSinceFits item.holder }
     ensures fits { IfOk result liveness.ItemFits }
     ensures same { IfOk result (λ same. same ≡ item) }
     ensures none { OnErr result (liveness.ItemFits item → ⊥) }
@@ -91,28 +116,27 @@ fn in_range(item: Item) -> Result<Item, Failure>
 fn item_until(row: &Row, ends: u64) -> Result<Item, Failure>
     ensures item { IfOk result (BeginsWith row.now) }
     ensures ends { IfOk result (λ item. item.ends ≡ ends) }
-    ensures fault { IfErr result (λ f. IsFault f
-        → HasNone (λ item. BeginsWith row.now item × (item.ends ≡ ends))) }
+    ensures fault { FaultMeansNone result (λ item. BeginsWith row.now item × (item.ends ≡ ends)) }
 {
     in_range(Item {
-        body: bytes(row, 0)?,
-        minutes: number(row, 1)?,
-        fresh: flag(number(row, 2)?)?,
-        holder: holder(number(row, 3)?, number(row, 4)?)?,
-        touched: number(row, 5)?,
+        body: bytes(row, BODY)?,
+        minutes: number(row, MINUTES)?,
+        fresh: flag(number(row, FRESH)?)?,
+        holder: holder(number(row, COOKIE)?, number(row, SINCE)?)?,
+        touched: number(row, TOUCHED)?,
         ends,
     })
 }
 
-/// The item, where this is its expiry.
-fn expiring(item: Item, at: u64) -> Result<Item, Failure>
+/// The item, where this moment is its expiry.
+fn expiring(item: Item, moment: u64) -> Result<Item, Failure>
     requires { liveness.ItemFits item }
     ensures same { IfOk result (λ same. same ≡ item) }
-    ensures ok { OnOk result (at ≡ liveness.expiry item) }
-    ensures none { OnErr result (at ≢ liveness.expiry item) }
+    ensures ok { OnOk result (moment ≡ liveness.expiry item) }
+    ensures none { OnErr result (moment ≢ liveness.expiry item) }
     ensures bad { FailsByRow result }
 {
-    if at != expiry(&item) {
+    if moment != expiry(&item) {
         return Err(Failure::BadRow);
     }
     Ok(item)
@@ -122,29 +146,29 @@ fn expiring(item: Item, at: u64) -> Result<Item, Failure>
 /// `ends` and `expiry`.
 pub(crate) fn item(row: &Row) -> Result<Item, Failure>
     ensures item { IfOk result (SaysItem row.now) }
-    ensures fault { IfErr result (λ f. IsFault f → HasNone (SaysItem row.now)) }
+    ensures fault { FaultMeansNone result (SaysItem row.now) }
 {
-    let ends = number(row, 6)?;
+    let ends = number(row, ENDS)?;
     let item = item_until(row, ends)?;
-    expiring(item, number(row, 7)?)
+    expiring(item, number(row, EXPIRY)?)
 }
 
 /// The item of a row with the columns `body`, `minutes`, `fresh`, `cookie`, `since`, `touched` and
 /// `expiry`. It has no end of its own.
 pub(crate) fn old_item(row: &Row) -> Result<Item, Failure>
     ensures item { IfOk result (SaysOldItem row.now) }
-    ensures fault { IfErr result (λ f. IsFault f → HasNone (SaysOldItem row.now)) }
+    ensures fault { FaultMeansNone result (SaysOldItem row.now) }
 {
     let item = item_until(row, NO_END)?;
-    expiring(item, number(row, 6)?)
+    expiring(item, number(row, OLD_EXPIRY)?)
 }
 
-/// The key in a column.
-pub(crate) fn key(row: &Row, at: usize) -> Result<Bytes, Failure>
-    ensures key { IfOk result (SaysKey row.now at) }
-    ensures fault { IfErr result (λ f. IsFault f → HasNone (SaysKey row.now at)) }
+/// The key at this place of a row.
+pub(crate) fn key(row: &Row, place: usize) -> Result<Bytes, Failure>
+    ensures key { IfOk result (SaysKey row.now place) }
+    ensures fault { FaultMeansNone result (SaysKey row.now place) }
 {
-    let key = bytes(row, at)?;
+    let key = bytes(row, place)?;
     let length = key.as_slice().len();
     if length == 0 || length > MOST_KEY {
         return Err(Failure::BadRow);

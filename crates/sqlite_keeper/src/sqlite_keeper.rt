@@ -4,7 +4,7 @@ ghost use Rattle.asp_messages.specs.Ranges.{KeyFits};
 ghost use Rattle.session_machine.specs.Liveness.{ItemFits};
 ghost use Rattle.keeper.specs.Causes.{HasKeepCause};
 ghost use Rattle.sqlite_keeper.specs.Failures.{answer_of};
-ghost use Rattle.sqlite_keeper.specs.Keeping.{failures, count_after};
+ghost use Rattle.sqlite_keeper.specs.Keeping.{faults_after, told_faults};
 
 use crate::failure::Failure;
 use crate::moving::move_rows;
@@ -87,7 +87,7 @@ impl<S: Alter> SqliteKeeper<S> {
     /// failure is a fault, which is counted. Each call of the keeper answers by it.
     fn answer<T>(&mut self, given: Result<T, Failure>) -> Result<T, KeepError>
         ensures told { result ≡ answer_of given }
-        ensures counted { self.new.faults ≡ count_after self.old.faults result }
+        ensures counted { self.new.faults ≡ faults_after self.old.faults result }
     {
         match given {
             Ok(value) => Ok(value),
@@ -148,7 +148,7 @@ fn due_key<S: Alter>(connection: &mut Connection<S>, t: u64) -> Result<Option<By
     ensures { IfOk result (λ key. IfSome key KeyFits) }
 {
     match statements::due_row(connection, &[ValueRef::Int(moment(t))])? {
-        Some(row) => Ok(Some(rows::key(&row, 0)?)),
+        Some(row) => Ok(Some(rows::key(&row, rows::KEY)?)),
         None => Ok(None),
     }
 }
@@ -158,7 +158,7 @@ impl<S: Alter> Keeper for SqliteKeeper<S> {
 
     ghost floor = { λ _. 0 };
 
-    ghost count = { λ k. failures k.faults };
+    ghost count = { λ k. told_faults k.faults };
 
     ghost can_count = { λ n. n < 2 ^ 64 };
 
@@ -169,8 +169,9 @@ impl<S: Alter> Keeper for SqliteKeeper<S> {
     fn get(&mut self, key: &Bytes) -> Result<Option<Item>, KeepError>
         requires { KeyFits key.now }
         ensures fits { IfOk result (λ item. IfSome item ItemFits) }
-        ensures counted { self.new.faults ≡ count_after self.old.faults result }
-        ensures cause { HasKeepCause (failures self.old.faults) (failures self.new.faults) result }
+        ensures counted { self.new.faults ≡ faults_after self.old.faults result }
+        ensures cause { HasKeepCause (told_faults self.old.faults)
+            (told_faults self.new.faults) result }
     {
         let item = get_item(&mut self.connection, key);
         self.answer(item)
@@ -179,8 +180,9 @@ impl<S: Alter> Keeper for SqliteKeeper<S> {
     fn put(&mut self, key: &Bytes, item: Item) -> Result<(), KeepError>
         requires key { KeyFits key.now }
         requires item { ItemFits item }
-        ensures counted { self.new.faults ≡ count_after self.old.faults result }
-        ensures cause { HasKeepCause (failures self.old.faults) (failures self.new.faults) result }
+        ensures counted { self.new.faults ≡ faults_after self.old.faults result }
+        ensures cause { HasKeepCause (told_faults self.old.faults)
+            (told_faults self.new.faults) result }
     {
         let written = put_item(&mut self.connection, key, &item);
         self.answer(written)
@@ -188,8 +190,9 @@ impl<S: Alter> Keeper for SqliteKeeper<S> {
 
     fn cut(&mut self, key: &Bytes) -> Result<(), KeepError>
         requires { KeyFits key.now }
-        ensures counted { self.new.faults ≡ count_after self.old.faults result }
-        ensures cause { HasKeepCause (failures self.old.faults) (failures self.new.faults) result }
+        ensures counted { self.new.faults ≡ faults_after self.old.faults result }
+        ensures cause { HasKeepCause (told_faults self.old.faults)
+            (told_faults self.new.faults) result }
     {
         let removed = cut_item(&mut self.connection, key);
         self.answer(removed)
@@ -197,8 +200,9 @@ impl<S: Alter> Keeper for SqliteKeeper<S> {
 
     fn due(&mut self, t: u64) -> Result<Option<Bytes>, KeepError>
         ensures fits { IfOk result (λ key. IfSome key KeyFits) }
-        ensures counted { self.new.faults ≡ count_after self.old.faults result }
-        ensures cause { HasKeepCause (failures self.old.faults) (failures self.new.faults) result }
+        ensures counted { self.new.faults ≡ faults_after self.old.faults result }
+        ensures cause { HasKeepCause (told_faults self.old.faults)
+            (told_faults self.new.faults) result }
     {
         let key = due_key(&mut self.connection, t);
         self.answer(key)
