@@ -15,10 +15,11 @@ use Rattle.script_runner.specs.declared.driver.Driver.{Driver}
 use Rattle.script_runner.specs.declared.verdict.Verdict.{Verdict}
 use Rattle.script_runner.specs.declared.verdict.Verdict.TheVariants as verdicts
 use Rattle.script_runner.specs.Drive.{End, script_text, BeginsWrong, WroteInPart, Reached, EndsAs, IsDrive}
-use Rattle.script_runner.specs.Running.{HasRun, HasRunLast, KeepsFloor, Went, Waits, Gave, Breaks, Closes, Lacks}
+use Rattle.script_runner.specs.Running.{HasRun, HasRunLast, KeepsFloor, Went, Waits, Gave, Lacks}
 use Rattle.stream_run.specs.declared.consumer.Consumer.{Ghosts}
 use Rattle.stream_run.specs.declared.ending.End.TheVariants as ends
 use Rattle.stream_run.specs.Ending.{Ended, IsOver, HasRoom}
+use Rattle.stream_run.specs.Feeding.{GoesOn}
 use Rattle.stream_run.specs.Flow.{flow}
 use Rattle.script_runner.proofs.LineLemmas.{script_text-push, line_of, AreLines-push, Leads-push}
 
@@ -151,13 +152,9 @@ module _ {K : Type 0} (G : keepers.Ghosts K) where
     went = Went G;
     waits = Waits;
     gave = Gave G;
-    breaks = λ broken first now bytes whole last. (last ≡ []) × KeepsFloor G first now
-        × Breaks G broken.more broken.over now bytes whole;
-    closes = Closes G;
     lacks = Lacks G;
     work = λ now. length now.held;
-    head = λ now. now.print.items;
-    body = λ now. [];
+    parts = λ now. (now.print.items, []);
   }
 
   none_long : (last : List ℕ) → last ≡ [] → 0 < length last → ⊥
@@ -185,7 +182,7 @@ module _ {K : Type 0} (G : keepers.Ghosts K) where
 
     part_keeps : (bytes whole last : List ℕ)
         → ((verdict : Verdict) × IsOver ghosts most first now source' bytes verdict whole last)
-        ⊎ Gave G first now bytes whole last → KeepsFloor G first now
+        ⊎ Gave G GoesOn first now bytes whole last → KeepsFloor G first now
     part_keeps bytes whole last (inl (verdict, over)) = (over_keeps verdict bytes whole last over).1
     part_keeps bytes whole last (inr gave) = gave.1
 
@@ -296,7 +293,7 @@ module _ {K : Type 0} (G : keepers.Ghosts K) where
             ends.WriteFault) (whole last : List ℕ) (n : ℕ)
             → ((verdict : Verdict)
             × IsOver ghosts most first now source' ended.taken verdict whole last)
-            ⊎ Gave G first now ended.taken whole last
+            ⊎ Gave G GoesOn first now ended.taken whole last
             → 0 < length last → n ≤ length last → Takes sink sink' (whole ++ take n last)
             → IsDrive G.can_count most (flow source source' sink sink') (G.told keeper)
             (G.count keeper) ends.WriteFault

@@ -11,6 +11,7 @@ use Rattle.script_runner.specs.declared.driver.Driver.{Driver}
 use Rattle.script_runner.specs.declared.verdict.Verdict.{Verdict}
 use Rattle.script_runner.specs.declared.verdict.Verdict.TheVariants.{Whole, Broken}
 use Rattle.script_runner.specs.Drive.{script_text, AreLines, BeginsWrong}
+use Rattle.stream_run.specs.Feeding.{Going, GoesOn, OverAnyhow, OverAtEnd}
 
 -- no whole line is held, and no more of one than it may have, if more bytes could follow
 abbrev pub Waits : {K : Type 0} → Bool → Driver K → Type 0
@@ -41,16 +42,12 @@ module _ {K : Type 0} (G : Ghosts K) where
 
   -- no cookie may be drawn below the same number
   abbrev pub KeepsFloor : Driver K → Driver K → Type 0
-  KeepsFloor first now = G.floor (keeper_of now.script) ≡ G.floor (keeper_of first.script)
+  KeepsFloor start now = G.floor (keeper_of now.script) ≡ G.floor (keeper_of start.script)
 
   -- ---- a script as a consumer
 
   abbrev pub Went : Driver K → Driver K → List ℕ → List ℕ → Type 0
-  Went first now bytes due = HasRun now.script bytes now.held due × KeepsFloor first now
-
-  abbrev pub Gave : Driver K → Driver K → List ℕ → List ℕ → List ℕ → Type 0
-  Gave first now bytes whole last = HasRunLast now.script bytes now.held whole last
-      × KeepsFloor first now
+  Went start now bytes given = HasRun now.script bytes now.held given × KeepsFloor start now
 
   -- the line that is held first is none, or too long
   abbrev pub Breaks : Bool → Verdict → Driver K → List ℕ → List ℕ → Type 0
@@ -61,13 +58,21 @@ module _ {K : Type 0} (G : Ghosts K) where
 
   -- the input ended behind a line, or inside one
   abbrev pub Closes : Verdict → Driver K → Driver K → List ℕ → List ℕ → List ℕ → Type 0
-  Closes Whole first now bytes whole last = (last ≡ []) × KeepsFloor first now
+  Closes Whole start now bytes whole last = (last ≡ []) × KeepsFloor start now
       × HasRun now.script bytes now.held whole × (now.held ≡ [])
-  Closes Broken first now bytes whole last = (last ≡ []) × KeepsFloor first now
+  Closes Broken start now bytes whole last = (last ≡ []) × KeepsFloor start now
       × HasRun now.script bytes now.held whole × HasNo 10 now.held × (now.held ≢ [])
+
+  -- what was given last: what the last line printed, or nothing where the script is over
+  abbrev pub Gave : Going Verdict → Driver K → Driver K → List ℕ → List ℕ → List ℕ → Type 0
+  Gave GoesOn start now bytes whole last = HasRunLast now.script bytes now.held whole last
+      × KeepsFloor start now
+  Gave (OverAnyhow more verdict) start now bytes whole last = (last ≡ []) × KeepsFloor start now
+      × Breaks more verdict now bytes whole
+  Gave (OverAtEnd verdict) start now bytes whole last = Closes verdict start now bytes whole last
 
   -- no line was run, or one whose print is not written
   abbrev pub Lacks : Driver K → Driver K → List ℕ → List ℕ → Type 0
-  Lacks first now bytes due = KeepsFloor first now
-      × ((rest : List ℕ) × (HasRun now.script bytes rest due
-      ⊎ ((printed : List ℕ) × HasRunLast now.script bytes rest due printed)))
+  Lacks start now bytes given = KeepsFloor start now
+      × ((rest : List ℕ) × (HasRun now.script bytes rest given
+      ⊎ ((printed : List ℕ) × HasRunLast now.script bytes rest given printed)))

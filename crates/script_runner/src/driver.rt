@@ -19,8 +19,8 @@ pub struct Driver<K> {
 }
 
 impl<K: Keeper> Consumer for Driver<K> {
-    ghost use Rattle.std.specs.Prelude.{◌≡◌, length, []};
-    ghost use Rattle.script_runner.specs.Running.{KeepsFloor, Went, Waits, Gave, Breaks, Closes, Lacks};
+    ghost use Rattle.std.specs.Prelude.{length, []};
+    ghost use Rattle.script_runner.specs.Running.{Went, Waits, Gave, Lacks};
 
     type Over = Verdict;
 
@@ -30,19 +30,11 @@ impl<K: Keeper> Consumer for Driver<K> {
 
     ghost gave = { Gave ⟦<K as Keeper>⟧ };
 
-    ghost breaks = { λ broken first now bytes whole last. (last ≡ [])
-        × KeepsFloor ⟦<K as Keeper>⟧ first now
-        × Breaks ⟦<K as Keeper>⟧ broken.more broken.over now bytes whole };
-
-    ghost closes = { Closes ⟦<K as Keeper>⟧ };
-
     ghost lacks = { Lacks ⟦<K as Keeper>⟧ };
 
     ghost work = { λ now. length now.held };
 
-    ghost head = { λ now. now.print.items };
-
-    ghost body = { λ now. [] };
+    ghost parts = { λ now. (now.print.items, []) };
 
     fn feed(&mut self, piece: &[u8]) -> Result<(), NoMemory> {
         self.held.feed(piece)
@@ -78,11 +70,7 @@ impl<K: Keeper> Consumer for Driver<K> {
         })
     }
 
-    fn head(&self) -> &[u8] {
-        self.print.as_slice()
-    }
-
-    fn body(&self) -> &[u8] {
-        &[]
+    fn parts(&self) -> (&[u8], &[u8]) {
+        (self.print.as_slice(), &[])
     }
 }
