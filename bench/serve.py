@@ -7,7 +7,7 @@ PROGRAM is the built program; without it ./asp_state builds it, and its own is t
 and 64 connections, by turns, three rounds of a second each, the server on one half of the processors and the load on the other,
 and prints the medians: requests a second, p50 and p99 in microseconds. --growth runs 1, 2, 4 and 8 workers with as many
 connections; --sessions writes sessions with contents of 100 bytes to 64 KiB, and prints the memory of each, and the time of a request
-before and after 1,000,000 of them; --expiry writes 100,000 sessions of one minute, lets them expire, and prints the memory before and
+before and after 1,000,000 of them; --expiry writes 20,000 sessions of one minute, lets them expire, and prints the memory before and
 after short visits, and after as many more sessions; --calls counts the system calls of 20,000 requests under strace. It needs cc, and
 redis-server, memcached, nginx and strace where they are asked for. Outside the gate; nothing of it is promised.
 """
@@ -213,27 +213,29 @@ def visit(port):
 
 
 def expiry(bench):
-    count, size = 100_000, 1_000
-    port, server = bench.serve(8)
-    empty = memory_of(server)
+    count, size = 20_000, 10_000
+    for workers in (1, 8):
+        port, server = bench.serve(workers)
+        empty = memory_of(server)
+        seen = []
 
-    def say(when):
-        print(f"{when}: {(memory_of(server) - empty) / 2**20:.0f} MiB more than at the beginning", flush=True)
+        def look(name):
+            seen.append(f"{name} {(memory_of(server) - empty) / 2**20:.0f}")
 
-    write_sessions(port, b"a", count, size, 1)
-    say(f"{count:,} sessions with contents of {size:,} bytes and a timeout of a minute")
-    time.sleep(62)
-    say("62 s later, when all have expired")
-    for visits in (1, 4, 10, 15):
-        for _ in range(visits):
+        write_sessions(port, b"a", count, size, 1)
+        look("written")
+        time.sleep(62)
+        look("expired")
+        for _ in range(12):
             visit(port)
-        # (The worker removes once the connection has ended.)
-        time.sleep(0.5)
-        say(f"after {visits} visits more")
-    write_sessions(port, b"b", count, size, 1)
-    say(f"after {count:,} other sessions")
-    server.terminate()
-    server.wait()
+            # (The worker removes once the connection has ended.)
+            time.sleep(0.3)
+        look("after 12 visits")
+        write_sessions(port, b"b", count, size, 1)
+        look("as many others written")
+        server.terminate()
+        server.wait()
+        print(f"{workers} workers, {count:,} sessions of {size:,} bytes, MiB more than at the beginning: {', '.join(seen)}", flush=True)
 
 
 def calls(bench):
