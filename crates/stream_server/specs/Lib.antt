@@ -1,3 +1,4 @@
+pub mod Accepting
 pub mod Callers
 pub mod Connections
 pub mod Doors
@@ -5,7 +6,6 @@ pub mod InMemory
 pub mod Meeting
 pub mod Moments
 pub mod Passes
-pub mod Pieces
 pub mod Progress
 pub mod Services
 pub mod Serving

@@ -2,12 +2,8 @@
 //! connections of their doors.
 #![tactic(auto)]
 
-mod answering;
 mod door;
-mod meeting;
 mod memory_door;
-mod part;
-mod reading;
 mod seating;
 mod serving;
 mod stream;

@@ -3,12 +3,12 @@ ghost use Rattle.std.specs.Prelude.{◌≡◌, ◌≢◌, ◌≤◌, ◌⊎◌, 
 ghost use Rattle.state_store.specs.NewShards.{IsNewKeeper};
 ghost use Rattle.state_store.specs.Passes.{first_cookie, first_place, last_cookie, shards_of};
 ghost use Rattle.stream_server.specs.Serving.{IfStored, IsServed, IsUntouched, HasFailed, NoneFailed};
+ghost use Rattle.stream_server.specs.Workers.{means_of};
 
-use crate::meeting::finish;
-use crate::part::serve_part;
-use crate::seating::{clear, give_passes, take_passes};
+use crate::seating::{clear, finish, give_passes, take_passes};
+use crate::worker::serve_part;
 use crate::{Door, Worker};
-use asp_base::{Clock, Gate};
+use asp_base::{Clock, Gate, status};
 use asp_messages::MOST_COOKIE;
 use keeper::Keeper;
 use state_store::{Desk, FreshStore, Pass, Store};
@@ -17,15 +17,6 @@ use std::rt::Clock as HostTime;
 use std::sync::Wait;
 use std::thread::Threads;
 use turnstile::Stands;
-
-/// The status where nothing failed.
-const SERVED: u8 = 0;
-
-/// The status where memory was wanting, and no connection was taken.
-const NO_MEMORY: u8 = 6;
-
-/// The status where a door failed.
-const DOOR_FAILED: u8 = 9;
 
 /// What serving leaves: how it ended, the store, and the passes under which the workers served.
 #[derive(Drop)]
@@ -48,7 +39,7 @@ fn refused<K: Keeper + Drop>(alloc: Global) -> Served<K>
     ensures passes { result.passes.items ≡ [] }
 {
     Served {
-        status: NO_MEMORY,
+        status: status::NO_MEMORY,
         store: None,
         passes: Vec::new(alloc),
     }
@@ -97,7 +88,7 @@ pub fn serve_all<
     ensures served { result.status ≢ 6 → IfStored result.store (λ store.
         (shards_of store ≡ length keepers.items) × (first_place store ≡ 0)
         × (first_cookie store ≡ 1) × (last_cookie store ≡ 2 ^ 63 - 1)
-        × IsServed (record { door = D.told; faults = D.faults; clock = C.told }) store
+        × IsServed (means_of D.Door C.Clock) store
         workers.old workers.new result.passes.items) }
     ensures failed { result.status ≡ 9 → HasFailed workers.new }
     ensures none_failed { result.status ≡ 0 → NoneFailed workers.new }
@@ -105,10 +96,10 @@ pub fn serve_all<
     let Ok(room) = Vec::with_capacity(alloc, workers.len()) else {
         return refused(alloc);
     };
-    let Ok(fresh) = Store::new(rt, alloc, keepers, 1, MOST_COOKIE, 0) else {
+    let Ok(made) = Store::new(rt, alloc, keepers, 1, MOST_COOKIE, 0) else {
         return refused(alloc);
     };
-    let FreshStore { store, mut roll } = fresh;
+    let FreshStore { store, mut roll } = made;
     let Ok(()) = give_passes(rt, alloc, &store, &mut roll, workers) else {
         clear(workers);
         return refused(alloc);
@@ -117,9 +108,9 @@ pub fn serve_all<
     let mut passes = take_passes(workers, room);
     finish(rt, &store, roll, &mut passes);
     let status = if has_failed(workers) {
-        DOOR_FAILED
+        status::ACCEPT_FAULT
     } else {
-        SERVED
+        status::DONE
     };
     Served {
         status,

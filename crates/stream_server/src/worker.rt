@@ -1,8 +1,8 @@
-//! A worker, which serves the connections of its door.
-ghost use Rattle.std.specs.Prelude.{◌≡◌, None, false};
+//! Workers, each of which serves the connections of its door, side by side.
+ghost use Rattle.std.specs.Prelude.{◌≡◌, All, None, false, length};
 ghost use Rattle.state_store.specs.Passes.{IsPassOf, caller_of};
 ghost use Rattle.stream_server.specs.Services.{HasShift};
-ghost use Rattle.stream_server.specs.Workers.{post_with};
+ghost use Rattle.stream_server.specs.Workers.{HasPassOf, HasWorked, HaveWorked, means_of, post_with};
 
 use crate::{Door, serve_stream};
 use asp_base::{Clock, Failed, Gate};
@@ -11,6 +11,7 @@ use state_store::{Desk, Pass, Store};
 use std::alloc::Global;
 use std::rt::Clock as HostTime;
 use std::sync::Wait;
+use std::thread::{Threads, for_each_mut};
 use turnstile::Stands;
 
 /// A worker: its door, its clock and, while it serves, its pass.
@@ -49,7 +50,7 @@ impl<D, C, K: Keeper> Worker<D, C, K> {
 /// Serves the connections of a door, one after the other, gives each back, and sweeps once after
 /// each, at the moment that the clock gives next. It goes on whatever the end of a connection or of
 /// a sweep was, until no connection is to come, or the door failed; it answers whether it failed.
-pub(crate) fn serve_door<R: Wait + HostTime, D: Door, C: Clock, K: Keeper + Drop, G: Gate>(
+fn serve_door<R: Wait + HostTime, D: Door, C: Clock, K: Keeper + Drop, G: Gate>(
     rt: &R,
     alloc: Global,
     store: &Store<K>,
@@ -62,9 +63,9 @@ pub(crate) fn serve_door<R: Wait + HostTime, D: Door, C: Clock, K: Keeper + Drop
     ensures pass { IsPassOf store.now pass.new }
     ensures caller { caller_of pass.new ≡ caller_of pass.old }
     ensures served { HasShift K.told result
-        (post_with (record { door = D.told; faults = D.faults; clock = C.told }) store.now
+        (post_with (means_of D.Door C.Clock) store.now
         door.old clock.old pass.old)
-        (post_with (record { door = D.told; faults = D.faults; clock = C.told }) store.now
+        (post_with (means_of D.Door C.Clock) store.now
         door.new clock.new pass.new) }
 {
     for _ in rt.forever() {
@@ -90,4 +91,56 @@ pub(crate) fn serve_door<R: Wait + HostTime, D: Door, C: Clock, K: Keeper + Drop
         }
     }
     unreachable!()
+}
+
+/// Serves the connections of the worker's door under the worker's pass.
+fn serve_worker<R: Wait + HostTime, D: Door, C: Clock, K: Keeper + Drop, G: Gate>(
+    rt: &R,
+    alloc: Global,
+    store: &Store<K>,
+    worker: &mut Worker<D, C, K>,
+    gate: &G,
+)
+    requires { HasPassOf store.now worker.old.pass }
+    ensures { HasWorked (means_of D.Door C.Clock)
+        store.now worker.old worker.new }
+{
+    if let Some(pass) = &mut worker.pass {
+        let failed = serve_door(
+            rt,
+            alloc,
+            store,
+            &mut worker.door,
+            &mut worker.clock,
+            pass,
+            gate,
+        );
+        worker.failed = failed;
+    }
+}
+
+/// The workers serve the connections of their doors, each in a thread of its own where one can be
+/// had.
+pub(crate) fn serve_part<
+    R: Threads + Wait + HostTime + Sync,
+    D: Door + Send,
+    C: Clock + Send,
+    K: Keeper + Drop + Send,
+    G: Gate + Sync,
+>(rt: &R, alloc: Global, store: &Store<K>, workers: &mut [Worker<D, C, K>], gate: &G)
+    requires { All (λ w. HasPassOf store.now w.pass) workers.old }
+    ensures as_long { length workers.new ≡ length workers.old }
+    ensures worked { HaveWorked (means_of D.Door C.Clock)
+        store.now workers.old workers.new }
+{
+    let threads = workers.len();
+    if threads == 0 {
+        return;
+    }
+    let serve = |_place: usize, worker: &mut Worker<D, C, K>|
+        requires { HasPassOf store.now worker.now.pass }
+        ensures { HasWorked (means_of D.Door C.Clock)
+            store.entry.now worker.entry.now worker.exit.now }
+    { serve_worker(rt, alloc, store, worker, gate) };
+    for_each_mut(rt, workers, threads, &serve);
 }

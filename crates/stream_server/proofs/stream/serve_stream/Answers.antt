@@ -1,5 +1,6 @@
 use Rattle.std.proofs.Common.{◌-◌, List, ℕ, [], refl, sym, ap, ◌∙◌, subst, inl, inr, arith}
-use Rattle.std.specs.Prelude.{◌≢◌, Option}
+use Rattle.std.specs.Prelude.{◌≢◌}
+use Rattle.asp_base.specs.Limits.{most_input}
 use Rattle.asp_base.proofs.OutsideLemmas.{Gives-nil}
 use Rattle.asp_messages.specs.RequestSpelling.{SpellsRequest}
 use Rattle.asp_messages.specs.Stream.{HasNoMessage}
@@ -7,27 +8,16 @@ use Rattle.asp_messages.proofs.RequestLemmas.{none_in_nothing}
 use Rattle.message_framing.specs.Held.{Held}
 use Rattle.stream_core.specs.Connection.{Connection}
 use Rattle.stream_server.specs.Callers.{caller_with}
-use Rattle.stream_server.specs.Connections.{Line}
+use Rattle.stream_server.specs.Connections.{line_of}
 use Rattle.stream_server.specs.Progress.{Streaming}
-use Rattle.stream_server.specs.Streams.{most_input}
 use Rattle.stream_server.proofs.StreamLemmas.{streaming-start, streaming-fed, streaming-on, end-long, end-no_memory, end-badly, end-unfed, end-write, hopeless-none, hopeless-some, fed_is, rose-since}
 use Rattle.stream_server.proofs.stream.serve_stream.Goals as goal
-
-abbrev line : Option (List ℕ × List ℕ) → Option (List ℕ) → ℕ → ℕ → Line
-line source sink source_faults sink_faults =
-    record {
-      source = source;
-      sink = sink;
-      source_faults = source_faults;
-      sink_faults = sink_faults;
-    }
 
 pub loop-left-init : goal.loop-left-init
 loop-left-init g c =
     let reader = ap (λ (s : Connection). s.reader) c.new-stream.ensures in
     let held = ap (λ (r : Held). r.held) reader in
-    let before = line (g.S.Source.told c.args.source.now) (g.T.Sink.taken c.args.sink.now)
-    (g.S.Source.faults c.args.source.now) (g.T.Sink.faults c.args.sink.now) in
+    let before = line_of g.S.Source g.T.Sink c.args.source.now c.args.sink.now in
     let first = caller_with c.args.store.now c.args.pass.now (g.C.Clock.told c.args.clock.now) in
     record {
       pass = c.requires.pass;
@@ -43,12 +33,9 @@ loop-left-init g c =
 
 pub loop-left-preserved : goal.loop-left-preserved
 loop-left-preserved g c =
-    let before = line (g.S.Source.told c.args.source.now) (g.T.Sink.taken c.args.sink.now)
-    (g.S.Source.faults c.args.source.now) (g.T.Sink.faults c.args.sink.now) in
-    let now = line (g.S.Source.told c.loop-left.source) (g.T.Sink.taken c.loop-left.sink)
-    (g.S.Source.faults c.loop-left.source) (g.T.Sink.faults c.loop-left.sink) in
-    let read = line (g.S.Source.told c.take_piece.new.source) (g.T.Sink.taken c.loop-left.sink)
-    (g.S.Source.faults c.take_piece.new.source) (g.T.Sink.faults c.loop-left.sink) in
+    let before = line_of g.S.Source g.T.Sink c.args.source.now c.args.sink.now in
+    let now = line_of g.S.Source g.T.Sink c.loop-left.source c.loop-left.sink in
+    let read = line_of g.S.Source g.T.Sink c.take_piece.new.source c.loop-left.sink in
     let first = caller_with c.args.store.now c.args.pass.now (g.C.Clock.told c.args.clock.now) in
     let mid = caller_with c.args.store.now c.loop-left.pass (g.C.Clock.told c.loop-left.clock) in
     let last = caller_with c.args.store.now c.answer_held.new.pass
@@ -60,9 +47,7 @@ loop-left-preserved g c =
     c.take_piece.new.stream.reader.held gave.2.0 c.loop-left.left
     (c.loop-left.left - c.in-Fed.count) c.loop-left.invariant.streaming gave.2.2 refl held
     (omega (arith, gave.1, gave.2.1)) in
-    let after = line (g.S.Source.told c.take_piece.new.source)
-    (g.T.Sink.taken c.answer_held.new.sink) (g.S.Source.faults c.take_piece.new.source)
-    (g.T.Sink.faults c.answer_held.new.sink) in
+    let after = line_of g.S.Source g.T.Sink c.take_piece.new.source c.answer_held.new.sink in
     let waits = c.in-More.ensures.waits refl in
     record {
       pass = c.answer_held.ensures.pass;
@@ -79,16 +64,12 @@ loop-left-preserved g c =
 
 pub returns-in-End-clause-served : goal.returns-in-End-clause-served
 returns-in-End-clause-served g c =
-    let before = line (g.S.Source.told c.args.source.now) (g.T.Sink.taken c.args.sink.now)
-    (g.S.Source.faults c.args.source.now) (g.T.Sink.faults c.args.sink.now) in
-    let now = line (g.S.Source.told c.loop-left.source) (g.T.Sink.taken c.loop-left.sink)
-    (g.S.Source.faults c.loop-left.source) (g.T.Sink.faults c.loop-left.sink) in
-    let read = line (g.S.Source.told c.take_piece.new.source) (g.T.Sink.taken c.loop-left.sink)
-    (g.S.Source.faults c.take_piece.new.source) (g.T.Sink.faults c.loop-left.sink) in
+    let before = line_of g.S.Source g.T.Sink c.args.source.now c.args.sink.now in
+    let now = line_of g.S.Source g.T.Sink c.loop-left.source c.loop-left.sink in
+    let read = line_of g.S.Source g.T.Sink c.take_piece.new.source c.loop-left.sink in
     let first = caller_with c.args.store.now c.args.pass.now (g.C.Clock.told c.args.clock.now) in
     let mid = caller_with c.args.store.now c.loop-left.pass (g.C.Clock.told c.loop-left.clock) in
-    let after = line (g.S.Source.told c.take_piece.new.source) (g.T.Sink.taken c.end_badly.new.sink)
-    (g.S.Source.faults c.take_piece.new.source) (g.T.Sink.faults c.end_badly.new.sink) in
+    let after = line_of g.S.Source g.T.Sink c.take_piece.new.source c.end_badly.new.sink in
     let ended = c.in-End.ensures.end refl in
     let reader = ap (λ (s : Connection). s.reader) ended.2 in
     let some : c.loop-left.stream.reader.held ≢ [] = λ none.
@@ -110,12 +91,9 @@ returns-in-End-clause-served g c =
 
 pub returns-in-NoMemory-clause-served : goal.returns-in-NoMemory-clause-served
 returns-in-NoMemory-clause-served g c =
-    let before = line (g.S.Source.told c.args.source.now) (g.T.Sink.taken c.args.sink.now)
-    (g.S.Source.faults c.args.source.now) (g.T.Sink.faults c.args.sink.now) in
-    let now = line (g.S.Source.told c.loop-left.source) (g.T.Sink.taken c.loop-left.sink)
-    (g.S.Source.faults c.loop-left.source) (g.T.Sink.faults c.loop-left.sink) in
-    let read = line (g.S.Source.told c.take_piece.new.source) (g.T.Sink.taken c.loop-left.sink)
-    (g.S.Source.faults c.take_piece.new.source) (g.T.Sink.faults c.loop-left.sink) in
+    let before = line_of g.S.Source g.T.Sink c.args.source.now c.args.sink.now in
+    let now = line_of g.S.Source g.T.Sink c.loop-left.source c.loop-left.sink in
+    let read = line_of g.S.Source g.T.Sink c.take_piece.new.source c.loop-left.sink in
     let first = caller_with c.args.store.now c.args.pass.now (g.C.Clock.told c.args.clock.now) in
     let mid = caller_with c.args.store.now c.loop-left.pass (g.C.Clock.told c.loop-left.clock) in
     let gave = c.in-NoMemory.ensures.no_memory refl in
@@ -129,12 +107,9 @@ returns-in-NoMemory-clause-served g c =
 
 pub returns-then-left-eq0-clause-served : goal.returns-then-left-eq0-clause-served
 returns-then-left-eq0-clause-served g c =
-    let before = line (g.S.Source.told c.args.source.now) (g.T.Sink.taken c.args.sink.now)
-    (g.S.Source.faults c.args.source.now) (g.T.Sink.faults c.args.sink.now) in
-    let now = line (g.S.Source.told c.loop-left.source) (g.T.Sink.taken c.loop-left.sink)
-    (g.S.Source.faults c.loop-left.source) (g.T.Sink.faults c.loop-left.sink) in
-    let read = line (g.S.Source.told c.take_piece.new.source) (g.T.Sink.taken c.loop-left.sink)
-    (g.S.Source.faults c.take_piece.new.source) (g.T.Sink.faults c.loop-left.sink) in
+    let before = line_of g.S.Source g.T.Sink c.args.source.now c.args.sink.now in
+    let now = line_of g.S.Source g.T.Sink c.loop-left.source c.loop-left.sink in
+    let read = line_of g.S.Source g.T.Sink c.take_piece.new.source c.loop-left.sink in
     let first = caller_with c.args.store.now c.args.pass.now (g.C.Clock.told c.args.clock.now) in
     let mid = caller_with c.args.store.now c.loop-left.pass (g.C.Clock.told c.loop-left.clock) in
     let last = caller_with c.args.store.now c.answer_held.new.pass
@@ -146,9 +121,7 @@ returns-then-left-eq0-clause-served g c =
     c.take_piece.new.stream.reader.held gave.2.0 c.loop-left.left
     (c.loop-left.left - c.in-Fed.count) c.loop-left.invariant.streaming gave.2.2 refl held
     (omega (arith, gave.1, gave.2.1)) in
-    let after = line (g.S.Source.told c.take_piece.new.source)
-    (g.T.Sink.taken c.answer_held.new.sink) (g.S.Source.faults c.take_piece.new.source)
-    (g.T.Sink.faults c.answer_held.new.sink) in
+    let after = line_of g.S.Source g.T.Sink c.take_piece.new.source c.answer_held.new.sink in
     let broken = c.in-Broken.ensures.broken refl in
     let t = streaming-on before read after first mid last c.take_piece.new.stream.reader.held
     broken.0
@@ -164,12 +137,9 @@ returns-then-left-eq0-clause-served g c =
 
 pub returns-in-Broken-clause-served : goal.returns-in-Broken-clause-served
 returns-in-Broken-clause-served g c =
-    let before = line (g.S.Source.told c.args.source.now) (g.T.Sink.taken c.args.sink.now)
-    (g.S.Source.faults c.args.source.now) (g.T.Sink.faults c.args.sink.now) in
-    let now = line (g.S.Source.told c.loop-left.source) (g.T.Sink.taken c.loop-left.sink)
-    (g.S.Source.faults c.loop-left.source) (g.T.Sink.faults c.loop-left.sink) in
-    let read = line (g.S.Source.told c.take_piece.new.source) (g.T.Sink.taken c.loop-left.sink)
-    (g.S.Source.faults c.take_piece.new.source) (g.T.Sink.faults c.loop-left.sink) in
+    let before = line_of g.S.Source g.T.Sink c.args.source.now c.args.sink.now in
+    let now = line_of g.S.Source g.T.Sink c.loop-left.source c.loop-left.sink in
+    let read = line_of g.S.Source g.T.Sink c.take_piece.new.source c.loop-left.sink in
     let first = caller_with c.args.store.now c.args.pass.now (g.C.Clock.told c.args.clock.now) in
     let mid = caller_with c.args.store.now c.loop-left.pass (g.C.Clock.told c.loop-left.clock) in
     let last = caller_with c.args.store.now c.answer_held.new.pass
@@ -181,12 +151,9 @@ returns-in-Broken-clause-served g c =
     c.take_piece.new.stream.reader.held gave.2.0 c.loop-left.left
     (c.loop-left.left - c.in-Fed.count) c.loop-left.invariant.streaming gave.2.2 refl held
     (omega (arith, gave.1, gave.2.1)) in
-    let turn = line (g.S.Source.told c.take_piece.new.source)
-    (g.T.Sink.taken c.answer_held.new.sink) (g.S.Source.faults c.take_piece.new.source)
-    (g.T.Sink.faults c.answer_held.new.sink) in
-    let after = line (g.S.Source.told c.take_piece.new.source)
-    (g.T.Sink.taken c.end_badly-in-Broken.new.sink) (g.S.Source.faults c.take_piece.new.source)
-    (g.T.Sink.faults c.end_badly-in-Broken.new.sink) in
+    let turn = line_of g.S.Source g.T.Sink c.take_piece.new.source c.answer_held.new.sink in
+    let after = line_of g.S.Source g.T.Sink c.take_piece.new.source
+    c.end_badly-in-Broken.new.sink in
     let broken = c.in-Broken.ensures.broken refl in
     let t = streaming-on before read turn first mid last c.take_piece.new.stream.reader.held
     broken.0
@@ -215,12 +182,9 @@ returns-in-Broken-clause-served g c =
 pub returns-in-NoMemory-answer_held-clause-served :
     goal.returns-in-NoMemory-answer_held-clause-served
 returns-in-NoMemory-answer_held-clause-served g c =
-    let before = line (g.S.Source.told c.args.source.now) (g.T.Sink.taken c.args.sink.now)
-    (g.S.Source.faults c.args.source.now) (g.T.Sink.faults c.args.sink.now) in
-    let now = line (g.S.Source.told c.loop-left.source) (g.T.Sink.taken c.loop-left.sink)
-    (g.S.Source.faults c.loop-left.source) (g.T.Sink.faults c.loop-left.sink) in
-    let read = line (g.S.Source.told c.take_piece.new.source) (g.T.Sink.taken c.loop-left.sink)
-    (g.S.Source.faults c.take_piece.new.source) (g.T.Sink.faults c.loop-left.sink) in
+    let before = line_of g.S.Source g.T.Sink c.args.source.now c.args.sink.now in
+    let now = line_of g.S.Source g.T.Sink c.loop-left.source c.loop-left.sink in
+    let read = line_of g.S.Source g.T.Sink c.take_piece.new.source c.loop-left.sink in
     let first = caller_with c.args.store.now c.args.pass.now (g.C.Clock.told c.args.clock.now) in
     let mid = caller_with c.args.store.now c.loop-left.pass (g.C.Clock.told c.loop-left.clock) in
     let last = caller_with c.args.store.now c.answer_held.new.pass
@@ -232,9 +196,7 @@ returns-in-NoMemory-answer_held-clause-served g c =
     c.take_piece.new.stream.reader.held gave.2.0 c.loop-left.left
     (c.loop-left.left - c.in-Fed.count) c.loop-left.invariant.streaming gave.2.2 refl held
     (omega (arith, gave.1, gave.2.1)) in
-    let after = line (g.S.Source.told c.take_piece.new.source)
-    (g.T.Sink.taken c.answer_held.new.sink) (g.S.Source.faults c.take_piece.new.source)
-    (g.T.Sink.faults c.answer_held.new.sink) in
+    let after = line_of g.S.Source g.T.Sink c.take_piece.new.source c.answer_held.new.sink in
     let short = c.in-NoMemory-answer_held.ensures.no_memory refl in
     let t = streaming-on before read after first mid last c.take_piece.new.stream.reader.held
     short.0
@@ -249,12 +211,9 @@ returns-in-NoMemory-answer_held-clause-served g c =
 
 pub returns-in-WriteFault-clause-served : goal.returns-in-WriteFault-clause-served
 returns-in-WriteFault-clause-served g c =
-    let before = line (g.S.Source.told c.args.source.now) (g.T.Sink.taken c.args.sink.now)
-    (g.S.Source.faults c.args.source.now) (g.T.Sink.faults c.args.sink.now) in
-    let now = line (g.S.Source.told c.loop-left.source) (g.T.Sink.taken c.loop-left.sink)
-    (g.S.Source.faults c.loop-left.source) (g.T.Sink.faults c.loop-left.sink) in
-    let read = line (g.S.Source.told c.take_piece.new.source) (g.T.Sink.taken c.loop-left.sink)
-    (g.S.Source.faults c.take_piece.new.source) (g.T.Sink.faults c.loop-left.sink) in
+    let before = line_of g.S.Source g.T.Sink c.args.source.now c.args.sink.now in
+    let now = line_of g.S.Source g.T.Sink c.loop-left.source c.loop-left.sink in
+    let read = line_of g.S.Source g.T.Sink c.take_piece.new.source c.loop-left.sink in
     let first = caller_with c.args.store.now c.args.pass.now (g.C.Clock.told c.args.clock.now) in
     let mid = caller_with c.args.store.now c.loop-left.pass (g.C.Clock.told c.loop-left.clock) in
     let last = caller_with c.args.store.now c.answer_held.new.pass
@@ -266,9 +225,7 @@ returns-in-WriteFault-clause-served g c =
     c.take_piece.new.stream.reader.held gave.2.0 c.loop-left.left
     (c.loop-left.left - c.in-Fed.count) c.loop-left.invariant.streaming gave.2.2 refl held
     (omega (arith, gave.1, gave.2.1)) in
-    let after = line (g.S.Source.told c.take_piece.new.source)
-    (g.T.Sink.taken c.answer_held.new.sink) (g.S.Source.faults c.take_piece.new.source)
-    (g.T.Sink.faults c.answer_held.new.sink) in
+    let after = line_of g.S.Source g.T.Sink c.take_piece.new.source c.answer_held.new.sink in
     let part = c.in-WriteFault.ensures.in_part refl in
     end-write before read after first mid last
     (record {
@@ -280,10 +237,8 @@ returns-in-WriteFault-clause-served g c =
 
 pub returns-clause-served : goal.returns-clause-served
 returns-clause-served g c =
-    let before = line (g.S.Source.told c.args.source.now) (g.T.Sink.taken c.args.sink.now)
-    (g.S.Source.faults c.args.source.now) (g.T.Sink.faults c.args.sink.now) in
-    let now = line (g.S.Source.told c.loop-left.source) (g.T.Sink.taken c.loop-left.sink)
-    (g.S.Source.faults c.loop-left.source) (g.T.Sink.faults c.loop-left.sink) in
+    let before = line_of g.S.Source g.T.Sink c.args.source.now c.args.sink.now in
+    let now = line_of g.S.Source g.T.Sink c.loop-left.source c.loop-left.sink in
     let first = caller_with c.args.store.now c.args.pass.now (g.C.Clock.told c.args.clock.now) in
     let mid = caller_with c.args.store.now c.loop-left.pass (g.C.Clock.told c.loop-left.clock) in
     end-long before now now first mid

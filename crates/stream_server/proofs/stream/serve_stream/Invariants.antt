@@ -4,6 +4,7 @@ use Rattle.asp_messages.specs.RequestSpelling.{SpellsRequest}
 use Rattle.asp_messages.specs.Stream.{HasNoMessage}
 use Rattle.state_store.specs.Passes.{IsPassOf, caller_of}
 use Rattle.stream_server.specs.Callers.{caller_with}
+use Rattle.stream_server.specs.Connections.{line_of}
 use Rattle.stream_server.specs.Progress.{Streaming}
 use Rattle.stream_server.proofs.stream.serve_stream.Given as goal
 
@@ -12,18 +13,8 @@ invariant-loop-left g l = record {
   pass : IsPassOf l.store l.pass;
   caller : caller_of l.pass ≡ caller_of l.fn.pass;
   streaming : Streaming
-      (record {
-        source = g.S.Source.told l.fn.source;
-        sink = g.T.Sink.taken l.fn.sink;
-        source_faults = g.S.Source.faults l.fn.source;
-        sink_faults = g.T.Sink.faults l.fn.sink;
-      })
-      (record {
-        source = g.S.Source.told l.source;
-        sink = g.T.Sink.taken l.sink;
-        source_faults = g.S.Source.faults l.source;
-        sink_faults = g.T.Sink.faults l.sink;
-      })
+      (line_of g.S.Source g.T.Sink l.fn.source l.fn.sink)
+      (line_of g.S.Source g.T.Sink l.source l.sink)
       (caller_with l.store l.fn.pass (g.C.Clock.told l.fn.clock))
       (caller_with l.store l.pass (g.C.Clock.told l.clock))
       l.stream.reader.held l.left;

@@ -3,7 +3,7 @@ use Rattle.std.specs.Prelude.{IfSome}
 use Rattle.stream_server.specs.Callers.{caller_with}
 use Rattle.stream_server.specs.Connections.{line_of}
 use Rattle.stream_server.specs.Doors.{HandsOut}
-use Rattle.stream_server.specs.Workers.{post_with}
+use Rattle.stream_server.specs.Workers.{means_of, post_with}
 use Rattle.stream_server.proofs.ServiceLemmas.{underway-none, underway-more}
 use Rattle.stream_server.proofs.worker.serve_door.Goals as goal
 
@@ -25,19 +25,9 @@ loop-preserved g c =
     let told = g.D.Door.told in
     let store = c.args.store.now in
     let out : HandsOut (told c.loop.door) (told c.next-in-loop.new.self)
-    (line_of (record {
-      told = g.D.Input.Source.told;
-      source_faults = g.D.Input.Source.faults;
-      taken = g.D.Output.Sink.taken;
-      sink_faults = g.D.Output.Sink.faults;
-    }) c.in-Ok-Some.conn)
+    (line_of g.D.Input.Source g.D.Output.Sink c.in-Ok-Some.conn.input c.in-Ok-Some.conn.output)
     = subst (λ o. IfSome o (λ k. HandsOut (told c.loop.door) (told c.next-in-loop.new.self)
-    (line_of (record {
-      told = g.D.Input.Source.told;
-      source_faults = g.D.Input.Source.faults;
-      taken = g.D.Output.Sink.taken;
-      sink_faults = g.D.Output.Sink.faults;
-    }) k)))
+    (line_of g.D.Input.Source g.D.Output.Sink k.input k.output)))
     c.in-Ok-Some.field-0-is c.in-Ok-Some.ensures.some in
     record {
       can_next = tt;
@@ -46,11 +36,11 @@ loop-preserved g c =
       caller = swept.caller ∙ stream.caller ∙ inv.caller;
       count = c.done.ensures.count ∙ c.in-Ok-Some.ensures.count ∙ inv.count;
       underway = underway-more g.K.Keeper.told
-          (post_with (record { door = told; faults = g.D.Door.faults; clock = g.C.Clock.told })
+          (post_with (means_of g.D.Door g.C.Clock)
           store c.args.door.now c.args.clock.now c.args.pass.now)
-          (post_with (record { door = told; faults = g.D.Door.faults; clock = g.C.Clock.told })
+          (post_with (means_of g.D.Door g.C.Clock)
           store c.loop.door c.loop.clock c.loop.pass)
-          (post_with (record { door = told; faults = g.D.Door.faults; clock = g.C.Clock.told })
+          (post_with (means_of g.D.Door g.C.Clock)
           store c.done.new.self c.now-t.new.self c.sweep.new.pass)
           (told c.next-in-loop.new.self) _ _ c.serve_stream-end.result
           (caller_with store c.serve_stream-end.new.pass
