@@ -3,19 +3,17 @@ ghost use Rattle.std.specs.Prelude.{◌≡◌, ◌≢◌, ◌≤◌, ◌↔◌, 
 ghost use Rattle.state_store.specs.NewShards.{IsNewKeeper};
 ghost use Rattle.state_store.specs.Passes.{first_cookie, first_place, last_cookie, shards_of};
 ghost use Rattle.stream_server.specs.Serving.{HasFailed, IfStored, IsServed, IsUntouched, NoneFailed};
+ghost use Rattle.stream_server.specs.Workers.{means_of};
 ghost use Rattle.serve_command.specs.Words.{serve_of, workers_in};
 
 use crate::words::says_workers;
-use asp_base::{Clock, Gate};
+use asp_base::{Clock, Gate, status};
 use keeper::Keeper;
 use std::alloc::Global;
 use std::rt::Clock as HostTime;
 use std::sync::Wait;
 use std::thread::Threads;
 use stream_server::{Door, Served, Worker, serve_all};
-
-/// The status where the words are none of `serve`, or say another number of workers.
-const NO_SERVICE: u8 = 2;
 
 /// The workers serve the connections of their doors over a new store with a shard for each of the 1
 /// to 64 keepers, where the words are `serve PORT WORKERS LIMIT` and there are WORKERS workers.
@@ -56,14 +54,14 @@ pub fn serve<
     ensures served { (result.status ≡ 0) ⊎ (result.status ≡ 9) → IfStored result.store (λ store.
         (shards_of store ≡ length keepers.items) × (first_place store ≡ 0)
         × (first_cookie store ≡ 1) × (last_cookie store ≡ 2 ^ 63 - 1)
-        × IsServed (record { door = D.told; faults = D.faults; clock = C.told }) store
+        × IsServed (means_of D.Door C.Clock) store
         workers.old workers.new result.passes.items) }
     ensures failed { result.status ≡ 9 → HasFailed workers.new }
     ensures none_failed { result.status ≡ 0 → NoneFailed workers.new }
 {
     if !says_workers(words, workers.len()) {
         return Served {
-            status: NO_SERVICE,
+            status: status::NO_COMMAND,
             store: None,
             passes: Vec::new(alloc),
         };
