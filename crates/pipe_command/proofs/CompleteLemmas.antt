@@ -6,13 +6,14 @@ use Rattle.asp_messages.specs.RequestSpelling.{SpellsRequest}
 use Rattle.asp_messages.specs.Stream.{Spelled, HasNoMessage, IsHopeless}
 use Rattle.asp_messages.proofs.RequestLemmas.{spelling_some, SpellsRequest-unique}
 use Rattle.keeper.specs.declared.keeping.Keeper as keepers
+use Rattle.stream_core.specs.Whole.{IsWholeInput}
 use Rattle.stream_run.specs.declared.ending.End.TheVariants as ends
 use Rattle.stream_run.specs.Ending.{IfFewer, IsComplete}
 use Rattle.stream_run.specs.Flow.{Flow}
 use Rattle.pipe_command.specs.declared.pipe.Verdict.TheVariants as verdicts
 use Rattle.pipe_command.specs.declared.responder.Responder.{Responder}
 use Rattle.pipe_command.specs.Responding.{Breaks, Closes, HasAnswered}
-use Rattle.pipe_command.specs.Run.{End, IsWholeInput, status_number}
+use Rattle.pipe_command.specs.Run.{End, status_number}
 use Rattle.pipe_command.proofs.EndingLemmas.{ghosts, hopeless_some}
 
 nothing_front : (a b : List ℕ) → a ++ b ≡ [] → a ≡ []

@@ -37,8 +37,8 @@ use Rattle.pipe_command.specs.Giving.{given_body, given_head}
 use Rattle.pipe_command.specs.PlainRun.{closing, output_of, written_as}
 use Rattle.pipe_command.specs.Progress.{Progress, ProgressLast}
 use Rattle.pipe_command.specs.Responding.{Breaks, Closes, Gave, HasAnswered, IsUnbegun, Lacks, Waits, Went, owing, state_of, unbegun}
-use Rattle.pipe_command.specs.Run.{End, EndsAs, IsRun, PipeFits, Reached, StopsBroken, NeverFails, TellsLocks, Wrote, WroteInPart, closing_in, due_in}
-use Rattle.pipe_command.proofs.ResponderLemmas.{due_of, hopeless_none, rest_waits}
+use Rattle.pipe_command.specs.Run.{End, EndsAs, IsRun, PipeFits, Reached, StopsBroken, NeverFails, TellsLocks, Wrote, WroteInPart, closing_in, owed_in}
+use Rattle.pipe_command.proofs.ResponderLemmas.{owed_of, hopeless_none, rest_waits}
 
 -- ---- a beginning
 
@@ -77,7 +77,7 @@ Went-start G r fits begun stream stands cookies clock =
           list = [];
           spelled = refl;
           plain = refl;
-          due_is = begins r.pipe.journal r.is_begun begun;
+          owed_is = begins r.pipe.journal r.is_begun begun;
           desk = record {
             stands = stands;
             counts = tt;
@@ -222,8 +222,8 @@ module _ {K : Type 0} (G : keepers.Ghosts K) where
     -- all that is due was written
     all_wrote : (bytes rest due : List ℕ) (run : ProgressAt bytes rest due)
         → Takes f.sink f.sink' due
-        → Wrote (reached bytes rest due run) (due_in (reached bytes rest due run))
-    all_wrote bytes rest due run wrote = subst (Takes f.sink f.sink') run.due_is wrote
+        → Wrote (reached bytes rest due run) (owed_in (reached bytes rest due run))
+    all_wrote bytes rest due run wrote = subst (Takes f.sink f.sink') run.owed_is wrote
 
     -- so many bytes of what is due for the last message were
     part_wrote : (bytes rest whole last : List ℕ) (n : ℕ)
@@ -240,7 +240,7 @@ module _ {K : Type 0} (G : keepers.Ghosts K) where
         (closed : Closed whole last)
         (how : (rest : List ℕ) (run : ProgressAt ended.taken rest whole)
         → StopsBroken (reached ended.taken rest whole run)
-        → Closed (due_in (reached ended.taken rest whole run))
+        → Closed (owed_in (reached ended.taken rest whole run))
         (closing_in (reached ended.taken rest whole run))
         → EndsAs end (reached ended.taken rest whole run))
       where
@@ -249,7 +249,7 @@ module _ {K : Type 0} (G : keepers.Ghosts K) where
             → StopsBroken (reached ended.taken rest whole has.progress) → Gives end
         with_run rest has is stops =
             by_run end ended rest whole has.progress (how rest has.progress stops
-            (subst (λ d. Closed d (closing (output_of first.pipe.journal))) has.progress.due_is
+            (subst (λ d. Closed d (closing (output_of first.pipe.journal))) has.progress.owed_is
             (subst (λ l. Closed whole l) is closed)))
 
         broken_run : IsOver ghosts first.pipe.most first now f.source' ended.taken verdicts.Broken
@@ -337,7 +337,7 @@ module _ {K : Type 0} (G : keepers.Ghosts K) where
         over_run verdict ended ended.ends.0 ended.ends.1 ended.ends.2 ended.ends.3
     ended_run ends.ReadFault ended =
         let (due, (rest, is, has, none), waits, some, wrote) = ended.ends in
-        let now_has = due_of G first now ended.taken rest due waits.is_begun has in
+        let now_has = owed_of G first now ended.taken rest due waits.is_begun has in
         by_run ends.ReadFault ended rest due now_has.progress (
           rest_waits now.stream.reader rest is waits.none,
           some,
@@ -350,7 +350,7 @@ module _ {K : Type 0} (G : keepers.Ghosts K) where
         lacks_run ended ended.ends.0 ended.ends.1 ended.ends.2
     ended_run ends.Long ended =
         let (due, (rest, is, has, none), waits, all, wrote) = ended.ends in
-        let now_has = due_of G first now ended.taken rest due waits.is_begun has in
+        let now_has = owed_of G first now ended.taken rest due waits.is_begun has in
         by_run ends.Long ended rest due now_has.progress (
           rest_waits now.stream.reader rest is waits.none,
           all,

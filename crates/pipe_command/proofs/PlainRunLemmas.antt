@@ -14,7 +14,8 @@ use Rattle.session_machine.specs.declared.entry.Deed.TheVariants.{Asked}
 use Rattle.desk.specs.Draws.{draws, draw_of, deed_draws, draws_in}
 use Rattle.session_machine.specs.Profiles.{newest}
 use Rattle.journal_text.specs.WritingText.{entry_line, head_line, journal_text}
-use Rattle.pipe_command.specs.PlainRun.{Asking, asking_of, askings, written}
+use Rattle.stream_core.specs.Whole.{written}
+use Rattle.pipe_command.specs.PlainRun.{Asking, asking_of, askings, replies_to}
 use Rattle.pipe_command.specs.Progress.{total_draws}
 
 pub askings-push : (start step first k j : ℕ) (ms : List Message) (m : Message)
@@ -48,30 +49,36 @@ total_draws-push (Fit r ∷ ms) m = let rest = total_draws-push ms m in omega ar
 
 pub written-unfit : (start step first k j : ℕ) (ms : List Message) (list : List Entry)
     → map asking_of list ≡ askings start step first k j ms
-    → written (ms ++ Unfit ∷ []) list ≡ written ms list ++ reply_text replies.Bad
+    → written (replies_to (ms ++ Unfit ∷ []) list)
+    ≡ written (replies_to ms list) ++ reply_text replies.Bad
 written-unfit start step first k j [] list is = append-nil (reply_text replies.Bad)
 written-unfit start step first k j (Unfit ∷ ms) list is =
     ap (λ t. reply_text replies.Bad ++ t) (written-unfit start step first (k + 1) j ms list is)
-    ∙ sym (append_assoc (reply_text replies.Bad) (written ms list) (reply_text replies.Bad))
+    ∙ sym (append_assoc (reply_text replies.Bad) (written (replies_to ms list))
+    (reply_text replies.Bad))
 written-unfit start step first k j (Fit r ∷ ms) [] is = cc
 written-unfit start step first k j (Fit r ∷ ms) (e ∷ es) is =
     let tail : map asking_of es ≡ askings start step first (k + 1) (j + draws r.ask) ms = cc in
     ap (λ t. reply_text e.reply ++ t) (written-unfit start step first (k + 1) (j + draws r.ask) ms
-    es tail) ∙ sym (append_assoc (reply_text e.reply) (written ms es) (reply_text replies.Bad))
+    es tail) ∙ sym (append_assoc (reply_text e.reply) (written (replies_to ms es))
+    (reply_text replies.Bad))
 
 pub written-fit : (start step first k j : ℕ) (ms : List Message) (list : List Entry) (r : Request)
     (e : Entry) → map asking_of list ≡ askings start step first k j ms
-    → written (ms ++ Fit r ∷ []) (list ++ e ∷ []) ≡ written ms list ++ reply_text e.reply
+    → written (replies_to (ms ++ Fit r ∷ []) (list ++ e ∷ []))
+    ≡ written (replies_to ms list) ++ reply_text e.reply
 written-fit start step first k j [] [] r e is = append-nil (reply_text e.reply)
 written-fit start step first k j [] (f ∷ fs) r e is = cc
 written-fit start step first k j (Unfit ∷ ms) list r e is =
     ap (λ t. reply_text replies.Bad ++ t) (written-fit start step first (k + 1) j ms list r e is)
-    ∙ sym (append_assoc (reply_text replies.Bad) (written ms list) (reply_text e.reply))
+    ∙ sym (append_assoc (reply_text replies.Bad) (written (replies_to ms list))
+    (reply_text e.reply))
 written-fit start step first k j (Fit q ∷ ms) [] r e is = cc
 written-fit start step first k j (Fit q ∷ ms) (f ∷ fs) r e is =
     let tail : map asking_of fs ≡ askings start step first (k + 1) (j + draws q.ask) ms = cc in
     ap (λ t. reply_text f.reply ++ t) (written-fit start step first (k + 1) (j + draws q.ask) ms fs
-    r e tail) ∙ sym (append_assoc (reply_text f.reply) (written ms fs) (reply_text e.reply))
+    r e tail) ∙ sym (append_assoc (reply_text f.reply) (written (replies_to ms fs))
+    (reply_text e.reply))
 
 -- the cookies that the entries draw are those of the messages
 pub draws_in-plain : (start step first k j : ℕ) (ms : List Message) (list : List Entry)

@@ -17,11 +17,12 @@ use Rattle.desk.specs.Standing.{DeskStandsFor}
 use Rattle.session_machine.specs.declared.entry.Entry.{Entry}
 use Rattle.session_machine.specs.declared.entry.Deed.TheVariants.{Asked}
 use Rattle.session_machine.specs.History.{nothing}
+use Rattle.stream_core.specs.Whole.{IfFit}
 use Rattle.pipe_command.specs.declared.pipe.Output.{Output}
 use Rattle.pipe_command.specs.declared.pipe.Output.TheVariants as outputs
 use Rattle.pipe_command.specs.declared.pipe.Pipe.{Pipe}
 use Rattle.pipe_command.specs.declared.responder.Answer.{Answer}
-use Rattle.pipe_command.specs.Answering.{Answers, AnswersMessage, IfFit, IsAnswered, ServerState, due_for, entry_of}
+use Rattle.pipe_command.specs.Answering.{Answers, AnswersMessage, IsAnswered, ServerState, owed_for, entry_of}
 use Rattle.pipe_command.specs.PlainRun.{Asking, asking_of, askings, output_of, written_as}
 use Rattle.pipe_command.specs.Progress.{Progress, ProgressLast, total_draws}
 use Rattle.pipe_command.proofs.PlainRunLemmas.{askings-push, draws_in-plain, written-unfit, written-fit, journal_text-push}
@@ -40,7 +41,7 @@ Progress-fed CanCount pipe bytes due piece s run = record {
   list = run.list;
   spelled = Spelled-append SpellsRequest bytes run.messages s.held piece run.spelled;
   plain = run.plain;
-  due_is = run.due_is;
+  owed_is = run.owed_is;
   desk = run.desk;
   last_cookie = run.last_cookie;
   moment = run.moment;
@@ -48,24 +49,24 @@ Progress-fed CanCount pipe bytes due piece s run = record {
 }
 
 -- what is due with one message more
-due-unfit : (output : Output) (start step first faults : ℕ) (answer : Answer) (ms : List Message)
+owed-unfit : (output : Output) (start step first faults : ℕ) (answer : Answer) (ms : List Message)
     (list : List Entry) → answer.reply ≡ replies.Bad
     → map asking_of list ≡ askings start step first 0 0 ms
-    → written_as output (ms ++ Unfit ∷ []) list ≡ written_as output ms list ++ due_for output Unfit
+    → written_as output (ms ++ Unfit ∷ []) list ≡ written_as output ms list ++ owed_for output Unfit
     answer faults
-due-unfit outputs.Replies start step first faults answer ms list bad plain =
+owed-unfit outputs.Replies start step first faults answer ms list bad plain =
     written-unfit start step first 0 0 ms list plain
     ∙ ap (λ r. written_as outputs.Replies ms list ++ reply_text r) (sym bad)
-due-unfit outputs.Journal start step first faults answer ms list bad plain =
+owed-unfit outputs.Journal start step first faults answer ms list bad plain =
     sym (append-nil (written_as outputs.Journal ms list))
 
-due-fit : (output : Output) (start step first faults : ℕ) (answer : Answer) (ms : List Message)
+owed-fit : (output : Output) (start step first faults : ℕ) (answer : Answer) (ms : List Message)
     (list : List Entry) (r : Request) → map asking_of list ≡ askings start step first 0 0 ms
     → written_as output (ms ++ Fit r ∷ []) (list ++ entry_of r answer faults ∷ [])
-    ≡ written_as output ms list ++ due_for output (Fit r) answer faults
-due-fit outputs.Replies start step first faults answer ms list r plain =
+    ≡ written_as output ms list ++ owed_for output (Fit r) answer faults
+owed-fit outputs.Replies start step first faults answer ms list r plain =
     written-fit start step first 0 0 ms list r (entry_of r answer faults) plain
-due-fit outputs.Journal start step first faults answer ms list r plain =
+owed-fit outputs.Journal start step first faults answer ms list r plain =
     journal_text-push 0 list (entry_of r answer faults)
 
 module _ (CanCount : ℕ → Type 0) (pipe : Pipe) (bytes due front : List ℕ) (s s' : ServerState)
@@ -87,12 +88,12 @@ module _ (CanCount : ℕ → Type 0) (pipe : Pipe) (bytes due front : List ℕ) 
 
     goes_on-unfit : SpellsRequest front Unfit → Answers CanCount Unfit s s' answer
         → ProgressLast CanCount pipe bytes due
-        (due_for (output_of pipe.journal) Unfit answer s'.desk.faults) s'
+        (owed_for (output_of pipe.journal) Unfit answer s'.desk.faults) s'
     goes_on-unfit spells one =
         let replied : AnswersMessage CanCount Unfit s s' answer = one.replies in
         let desk = rw (← replied.1) at run.desk in
         let next : Progress CanCount pipe bytes
-        (due ++ due_for (output_of pipe.journal) Unfit answer s'.desk.faults) s' = record {
+        (due ++ owed_for (output_of pipe.journal) Unfit answer s'.desk.faults) s' = record {
           messages = run.messages ++ Unfit ∷ [];
           list = run.list;
           spelled =
@@ -100,9 +101,10 @@ module _ (CanCount : ℕ → Type 0) (pipe : Pipe) (bytes due front : List ℕ) 
           plain = run.plain
               ∙ sym (askings-push pipe.start pipe.step pipe.first 0 0 run.messages Unfit
               ∙ append-nil _);
-          due_is =
-              ap (λ t. t ++ due_for (output_of pipe.journal) Unfit answer s'.desk.faults) run.due_is
-              ∙ sym (due-unfit (output_of pipe.journal) pipe.start pipe.step pipe.first
+          owed_is =
+              ap (λ t. t ++ owed_for (output_of pipe.journal) Unfit answer s'.desk.faults)
+              run.owed_is
+              ∙ sym (owed-unfit (output_of pipe.journal) pipe.start pipe.step pipe.first
               s'.desk.faults
               answer
               run.messages run.list replied.0 run.plain);
@@ -121,17 +123,17 @@ module _ (CanCount : ℕ → Type 0) (pipe : Pipe) (bytes due front : List ℕ) 
             messages_are = refl;
             list_is = sym (append-nil run.list);
             plain = run.plain;
-            whole_is = run.due_is;
-            due_is = sym next.due_is;
+            whole_is = run.owed_is;
+            owed_is = sym next.owed_is;
           };
         }
 
     goes_on-fit : (r : Request) → SpellsRequest front (Fit r) → Answers CanCount (Fit r) s s' answer
         → ProgressLast CanCount pipe bytes due
-        (due_for (output_of pipe.journal) (Fit r) answer s'.desk.faults) s'
+        (owed_for (output_of pipe.journal) (Fit r) answer s'.desk.faults) s'
     goes_on-fit r spells one =
         let next : Progress CanCount pipe bytes
-        (due ++ due_for (output_of pipe.journal) (Fit r) answer s'.desk.faults) s' = record {
+        (due ++ owed_for (output_of pipe.journal) (Fit r) answer s'.desk.faults) s' = record {
           messages = run.messages ++ Fit r ∷ [];
           list = run.list ++ entry_of r answer s'.desk.faults ∷ [];
           spelled =
@@ -143,11 +145,11 @@ module _ (CanCount : ℕ → Type 0) (pipe : Pipe) (bytes due front : List ℕ) 
               ∙ ap (λ t. asking t answer.drawn) moment
               ∙ ap (asking (step_moment pipe.start pipe.step (0 + length run.messages))) drawn_is
               ∙ sym (askings-push pipe.start pipe.step pipe.first 0 0 run.messages (Fit r));
-          due_is =
-              ap (λ t. t ++ due_for (output_of pipe.journal) (Fit r) answer s'.desk.faults)
-              run.due_is
-              ∙ sym (due-fit (output_of pipe.journal) pipe.start pipe.step pipe.first s'.desk.faults
-              answer
+          owed_is =
+              ap (λ t. t ++ owed_for (output_of pipe.journal) (Fit r) answer s'.desk.faults)
+              run.owed_is
+              ∙ sym (owed-fit (output_of pipe.journal) pipe.start pipe.step pipe.first
+              s'.desk.faults answer
               run.messages run.list r run.plain);
           desk = stands.1;
           last_cookie = one.replies.last ∙ run.last_cookie;
@@ -164,8 +166,8 @@ module _ (CanCount : ℕ → Type 0) (pipe : Pipe) (bytes due front : List ℕ) 
             messages_are = refl;
             list_is = refl;
             plain = run.plain;
-            whole_is = run.due_is;
-            due_is = sym next.due_is;
+            whole_is = run.owed_is;
+            owed_is = sym next.owed_is;
           };
         }
       where
@@ -200,7 +202,7 @@ pub goes_on : (CanCount : ℕ → Type 0) (pipe : Pipe) (bytes due front : List 
     (one : IsAnswered CanCount (output_of pipe.journal) Gives m s s') → SpellsRequest front m
     → Progress CanCount pipe bytes due (record s { held = front ++ s'.held })
     → ProgressLast CanCount pipe bytes due
-    (due_for (output_of pipe.journal) m one.answer s'.desk.faults) s'
+    (owed_for (output_of pipe.journal) m one.answer s'.desk.faults) s'
 goes_on CanCount pipe bytes due front Gives s s' (Fit r) one spells run =
     goes_on-fit CanCount pipe bytes due front s s' one.answer run r spells one.answers
 goes_on CanCount pipe bytes due front Gives s s' Unfit one spells run =

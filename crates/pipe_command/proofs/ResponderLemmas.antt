@@ -15,7 +15,7 @@ use Rattle.pipe_command.specs.declared.pipe.Output.{Output}
 use Rattle.pipe_command.specs.declared.pipe.Output.TheVariants as outputs
 use Rattle.pipe_command.specs.declared.pipe.Pipe.{Pipe}
 use Rattle.pipe_command.specs.declared.responder.Responder.{Responder}
-use Rattle.pipe_command.specs.Answering.{IsAnswered, due_for}
+use Rattle.pipe_command.specs.Answering.{IsAnswered, owed_for}
 use Rattle.pipe_command.specs.PlainRun.{output_of}
 use Rattle.pipe_command.specs.Progress.{Progress}
 use Rattle.desk.specs.Standing.{state_of as desk_state}
@@ -112,10 +112,10 @@ module _ {K : Type 0} (G : Ghosts K) (first : Responder K) where
       (subst (λ r. HasAnswered G first now bytes r due) is has)
 
   -- what was due, where the first line was given before
-  pub due_of : (now : Responder K) (bytes rest due : List ℕ) → IsTrue now.is_begun
+  pub owed_of : (now : Responder K) (bytes rest due : List ℕ) → IsTrue now.is_begun
       → HasAnswered G first now bytes rest (owing now.is_begun due)
       → HasAnswered G first now bytes rest due
-  due_of now bytes rest due begun has =
+  owed_of now bytes rest due begun has =
       same_rest now bytes rest rest (owing now.is_begun due) due refl (ap (λ b. owing b due) begun)
       has
 
@@ -166,12 +166,12 @@ module _ {K : Type 0} (G : Ghosts K) (first : Responder K) where
           (one : IsAnswered G.can_count (output_of mid.pipe.journal) Gives m (state_of G mid)
           (state_of G new))
           → HasAnsweredLast G first new bytes new.stream.reader.held due
-          (due_for (output_of mid.pipe.journal) m one.answer (G.count new.desk.keeper))
+          (owed_for (output_of mid.pipe.journal) m one.answer (G.count new.desk.keeper))
       has_answered Gives = subst (λ (p : Pipe).
           (one : IsAnswered G.can_count (output_of p.journal) Gives m (state_of G mid)
           (state_of G new))
           → HasAnsweredLast G first new bytes new.stream.reader.held due
-          (due_for (output_of p.journal) m one.answer (G.count new.desk.keeper)))
+          (owed_for (output_of p.journal) m one.answer (G.count new.desk.keeper)))
           (sym before.pipe)
           (λ one. record {
             pipe = keeps.pipe ∙ before.pipe;
@@ -199,7 +199,7 @@ module _ {K : Type 0} (G : Ghosts K) (first : Responder K) where
             inr (
               ap (λ (p : Pipe). p.journal) (sym before.pipe) ∙ journal,
               (
-                due_for outputs.Journal m one.answer (G.count new.desk.keeper),
+                owed_for outputs.Journal m one.answer (G.count new.desk.keeper),
                 by_output outputs.Journal is one,
               ),
             ),
@@ -208,11 +208,11 @@ module _ {K : Type 0} (G : Ghosts K) (first : Responder K) where
           by_output : (output : Output) → output_of mid.pipe.journal ≡ output
               → (one : IsAnswered G.can_count output (λ due. ⊤) m (state_of G mid) (state_of G new))
               → HasAnsweredLast G first new bytes new.stream.reader.held due
-              (due_for output m one.answer (G.count new.desk.keeper))
+              (owed_for output m one.answer (G.count new.desk.keeper))
           by_output output is = subst (λ (o : Output).
               (one : IsAnswered G.can_count o (λ due. ⊤) m (state_of G mid) (state_of G new))
               → HasAnsweredLast G first new bytes new.stream.reader.held due
-              (due_for o m one.answer (G.count new.desk.keeper))) is
+              (owed_for o m one.answer (G.count new.desk.keeper))) is
               (has_answered (λ due. ⊤))
 
   -- nothing was answered for want of memory
@@ -253,7 +253,7 @@ module _ {K : Type 0} (G : Ghosts K) (first : Responder K) where
           of (inr (wrong, hopeless)) = absurd (whole wrong)
 
       has_before : HasAnswered G first old bytes went.0 due
-      has_before = due_of old bytes went.0 due begun went.2
+      has_before = owed_of old bytes went.0 due begun went.2
 
       -- a message was answered
       pub step_did : IsAnswered G.can_count (output_of old.pipe.journal) (λ due. given new ≡ due) m
@@ -323,7 +323,7 @@ module _ {K : Type 0} (G : Ghosts K) (first : Responder K) where
       -- nothing changed but the bytes held
       has_now : IsTrue old.is_begun → HasAnswered G first new bytes went.0 due
       has_now begun = of_same old new bytes went.0 due pipe desk clock
-          (due_of old bytes went.0 due begun went.2)
+          (owed_of old bytes went.0 due begun went.2)
 
       -- a piece was fed
       pub feed_went : (piece : List ℕ) → Waits true old → new.is_begun ≡ old.is_begun

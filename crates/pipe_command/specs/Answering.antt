@@ -1,5 +1,5 @@
 -- What one message does to a server: to its items, to the cookies that are left, and to its clock.
-use Rattle.std.specs.Prelude.{◌≡◌, ℕ, ◌+◌, ◌≤◌, ◌^◌, List, [], ◌∷◌, ◌++◌, ⊤}
+use Rattle.std.specs.Prelude.{◌≡◌, ℕ, ◌+◌, ◌≤◌, ◌^◌, List, [], ◌∷◌, ◌++◌}
 use Rattle.asp_base.specs.Moments.{Ticking, step_moment}
 use Rattle.asp_messages.specs.declared.request.Request.{Request}
 use Rattle.asp_messages.specs.declared.request.Message.{Message}
@@ -22,11 +22,6 @@ pub record ServerState : Type 0 where
   pub held : List ℕ
   pub desk : DeskState
   pub clock : Ticking
-
--- a fact of the request of a message that is one
-abbrev pub IfFit : Message → (Request → Type 0) → Type 0
-IfFit (Fit r) P = P r
-IfFit Unfit P = ⊤
 
 -- the entry of a request that was answered so, behind which the keeper counts so many faults
 abbrev pub entry_of : Request → Answer → ℕ → Entry
@@ -64,16 +59,16 @@ pub record Answers (CanCount : ℕ → Type 0) (m : Message) (old new : ServerSt
   pub held : new.held ≡ old.held
   pub replies : AnswersMessage CanCount m old new answer
 
--- what is due for a message that was answered: its reply, or its entry's line, where it has an
+-- what is owed for a message that was answered: its reply, or its entry's line, where it has an
 -- entry
-abbrev pub due_for : Output → Message → Answer → ℕ → List ℕ
-due_for Replies m answer faults = reply_text answer.reply
-due_for Journal (Fit r) answer faults = entry_line newest (entry_of r answer faults)
-due_for Journal Unfit answer faults = []
+abbrev pub owed_for : Output → Message → Answer → ℕ → List ℕ
+owed_for Replies m answer faults = reply_text answer.reply
+owed_for Journal (Fit r) answer faults = entry_line newest (entry_of r answer faults)
+owed_for Journal Unfit answer faults = []
 
--- A message was answered, and what is due for it was given so.
+-- A message was answered, and what is owed for it was given so.
 pub record IsAnswered (CanCount : ℕ → Type 0) (output : Output) (Gives : List ℕ → Type 0)
     (m : Message) (old new : ServerState) : Type 0 where
   pub answer : Answer
   pub answers : Answers CanCount m old new answer
-  pub gives : Gives (due_for output m answer new.desk.faults)
+  pub gives : Gives (owed_for output m answer new.desk.faults)

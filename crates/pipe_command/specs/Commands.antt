@@ -1,5 +1,6 @@
 -- What each command does.
-use Rattle.std.specs.Prelude.{◌≡◌, ◌⊎◌, ◌++◌, ◌∷◌, [], ◌^◌, ℕ, List, Option, ⊤}
+use Rattle.std.specs.Prelude.{◌≡◌, ◌⊎◌, ◌++◌, ◌∷◌, [], ℕ, List, Option, ⊤}
+use Rattle.asp_base.specs.Limits.{most_input}
 use Rattle.asp_base.specs.Outside.{Takes, TakesFront}
 use Rattle.journal_replay.specs.Replay as replay
 use Rattle.keeper.specs.declared.keeping.Keeper.{Ghosts}
@@ -10,6 +11,7 @@ use Rattle.script_runner.specs.Drive as drive
 use Rattle.session_id.specs.Identifiers.{text_of}
 use Rattle.session_machine.specs.declared.entry.Entry.{Entry}
 use Rattle.session_machine.specs.declared.profile.Profile.{Profile}
+use Rattle.stream_core.specs.Whole.{IsWholeInput}
 use Rattle.stream_run.specs.Flow.{Flow}
 use Rattle.pipe_command.specs.declared.pipe.Pipe.{Pipe}
 use Rattle.pipe_command.specs.declared.words.Command.{Command}
@@ -57,11 +59,11 @@ module _ {S K : Type 0} (G : Ghosts K) (seen : Seen S K) where
       })
   Does commands.Replay = (seen.result.keeper ≡ seen.keeper)
       × ((end : replay.End) × (seen.result.status ≡ replay.status_number end)
-      × replay.IsReplay (2 ^ 40) seen.flow.source seen.flow.source' seen.flow.sink
+      × replay.IsReplay most_input seen.flow.source seen.flow.source' seen.flow.sink
       seen.flow.sink' end)
   Does commands.Drive = (seen.result.status ≡ 3 → drive.TellsScript seen.flow.source → ⊥)
       × ((end : drive.End) × (seen.result.status ≡ drive.status_number end)
-      × drive.IsDrive G.can_count (2 ^ 40) seen.flow
+      × drive.IsDrive G.can_count most_input seen.flow
       (G.told seen.result.keeper) (G.count seen.result.keeper) end)
   Does (commands.Id bytes) = (seen.source' ≡ seen.source) × (seen.result.keeper ≡ seen.keeper)
       × WritesLine seen.result.status seen.flow.sink seen.flow.sink' (text_of bytes ++ 10 ∷ [])
@@ -70,13 +72,13 @@ module _ {S K : Type 0} (G : Ghosts K) (seen : Seen S K) where
 -- are answered, a journal is judged, a text that is none is told, a script is run whole.
 abbrev pub Completes : Option (List ℕ × List ℕ) → ℕ → Command → Type 0
 Completes told status (commands.Pipe run) =
-    pipe.IsWholeInput told run.most → (status ≡ 0) ⊎ (status ≡ 6)
+    IsWholeInput told run.most → (status ≡ 0) ⊎ (status ≡ 6)
 Completes told status commands.Replay =
     ((profile : Profile) (place : ℕ) (list : List Entry)
-    → replay.TellsJournal told (2 ^ 40) profile place list
+    → replay.TellsJournal told most_input profile place list
     → replay.IsStatusOf status profile place list)
-    × (replay.TellsNoJournal told (2 ^ 40) → (status ≡ 3) ⊎ (status ≡ 6))
+    × (replay.TellsNoJournal told most_input → (status ≡ 3) ⊎ (status ≡ 6))
 Completes told status commands.Drive =
-    drive.TellsScript told → drive.TellsFewer told (2 ^ 40) → (status ≡ 0) ⊎ (status ≡ 6)
+    drive.TellsScript told → drive.TellsFewer told most_input → (status ≡ 0) ⊎ (status ≡ 6)
 Completes told status (commands.Load load) = ⊤
 Completes told status (commands.Id bytes) = ⊤

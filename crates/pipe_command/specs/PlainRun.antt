@@ -4,6 +4,7 @@ use Rattle.std.specs.Prelude.{◌≡◌, ℕ, ◌+◌, List, [], ◌∷◌, ◌+
 use Rattle.asp_base.specs.Moments.{step_moment}
 use Rattle.asp_messages.specs.declared.request.Message.{Message}
 use Rattle.asp_messages.specs.declared.request.Message.TheVariants.{Fit, Unfit}
+use Rattle.asp_messages.specs.declared.reply.Reply.{Reply}
 use Rattle.asp_messages.specs.declared.reply.Reply.TheVariants.{Bad}
 use Rattle.asp_messages.specs.Fields.{most_cookie}
 use Rattle.asp_messages.specs.ReplyText.{reply_text}
@@ -13,6 +14,7 @@ use Rattle.journal_text.specs.WritingText.{journal_text}
 use Rattle.session_machine.specs.declared.entry.Entry.{Entry}
 use Rattle.session_machine.specs.declared.entry.Deed.{Deed}
 use Rattle.session_machine.specs.declared.entry.Deed.TheVariants.{Asked}
+use Rattle.stream_core.specs.Whole.{written}
 use Rattle.pipe_command.specs.declared.pipe.Pipe.{Pipe}
 use Rattle.pipe_command.specs.declared.pipe.Output.{Output}
 use Rattle.pipe_command.specs.declared.pipe.Output.TheVariants.{Replies, Journal}
@@ -38,13 +40,12 @@ askings start step first k j (Fit r ∷ ms) =
 abbrev pub IsPlainRun : ℕ → ℕ → ℕ → List Message → List Entry → Type 0
 IsPlainRun start step first ms list = map asking_of list ≡ askings start step first 0 0 ms
 
--- the canonical text of each message's reply, in order; a message that is no request is answered
--- `Bad`
-abbrev pub written : List Message → List Entry → List ℕ
-written [] list = []
-written (Unfit ∷ ms) list = reply_text Bad ++ written ms list
-written (Fit r ∷ ms) [] = []
-written (Fit r ∷ ms) (e ∷ es) = reply_text e.reply ++ written ms es
+-- each message's reply, in order; a message that is no request is answered `Bad`
+abbrev pub replies_to : List Message → List Entry → List Reply
+replies_to [] list = []
+replies_to (Unfit ∷ ms) list = Bad ∷ replies_to ms list
+replies_to (Fit r ∷ ms) [] = []
+replies_to (Fit r ∷ ms) (e ∷ es) = e.reply ∷ replies_to ms es
 
 -- what a run is to write
 abbrev pub output_of : Bool → Output
@@ -53,7 +54,7 @@ output_of true = Journal
 
 -- what a run writes: the replies, or the journal of its entries
 abbrev pub written_as : Output → List Message → List Entry → List ℕ
-written_as Replies ms list = written ms list
+written_as Replies ms list = written (replies_to ms list)
 written_as Journal ms list = journal_text newest 0 list
 
 -- what is written behind that for bytes that are no whole messages: one more `Bad`, and nothing
@@ -62,7 +63,7 @@ abbrev pub closing : Output → List ℕ
 closing Replies = reply_text Bad
 closing Journal = []
 
--- What is due for the messages is in two parts: whole for those before the last, and last for that
+-- What is owed for the messages is in two parts: whole for those before the last, and last for that
 -- one (its reply, or its entry's line).
 pub record SplitsAtLast (pipe : Pipe) (ms : List Message) (list : List Entry) (whole last : List ℕ)
     : Type 0 where
@@ -74,4 +75,4 @@ pub record SplitsAtLast (pipe : Pipe) (ms : List Message) (list : List Entry) (w
   pub list_is : list ≡ before ++ own
   pub plain : IsPlainRun pipe.start pipe.step pipe.first heard before
   pub whole_is : whole ≡ written_as (output_of pipe.journal) heard before
-  pub due_is : written_as (output_of pipe.journal) ms list ≡ whole ++ last
+  pub owed_is : written_as (output_of pipe.journal) ms list ≡ whole ++ last

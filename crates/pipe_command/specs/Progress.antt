@@ -20,21 +20,21 @@ total_draws [] = 0
 total_draws (Unfit ∷ ms) = total_draws ms
 total_draws (Fit r ∷ ms) = draws r.ask + total_draws ms
 
--- The bytes taken so far are messages and what is held, and the bytes that are due so far are what
+-- The bytes taken so far are messages and what is held, and the bytes that are owed so far are what
 -- a run of them writes.
-pub record Progress (CanCount : ℕ → Type 0) (pipe : Pipe) (bytes due : List ℕ) (s : ServerState)
+pub record Progress (CanCount : ℕ → Type 0) (pipe : Pipe) (bytes owed : List ℕ) (s : ServerState)
     : Type 0 where
   pub messages : List Message
   pub list : List Entry
   pub spelled : Spelled SpellsRequest bytes messages s.held
   pub plain : IsPlainRun pipe.start pipe.step pipe.first messages list
-  pub due_is : due ≡ written_as (output_of pipe.journal) messages list
+  pub owed_is : owed ≡ written_as (output_of pipe.journal) messages list
   pub desk : DeskStandsFor CanCount pipe.first nothing 0 list s.desk
   pub last_cookie : s.desk.cookies.last ≡ most_cookie
   pub moment : s.clock.next ≡ step_moment pipe.start pipe.step (length messages)
   pub step : s.clock.step ≡ pipe.step
 
--- The same, and what is due is in two parts: for the messages before the last, and for the last.
+-- The same, and what is owed is in two parts: for the messages before the last, and for the last.
 pub record ProgressLast (CanCount : ℕ → Type 0) (pipe : Pipe) (bytes whole last : List ℕ)
     (s : ServerState) : Type 0 where
   pub progress : Progress CanCount pipe bytes (whole ++ last) s

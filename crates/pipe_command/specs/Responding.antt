@@ -28,15 +28,15 @@ abbrev pub IsRest : Held → List ℕ → Type 0
 IsRest reader rest = (IsFalse reader.is_broken × (rest ≡ reader.held))
     ⊎ (IsTrue reader.is_broken × IsHopeless SpellsRequest rest)
 
--- what is due with the first line of a journal, where that was not given yet
+-- what is owed with the first line of a journal, where that was not given yet
 abbrev pub owing : Bool → List ℕ → List ℕ
-owing true due = due
-owing false due = due ++ journal_text newest 0 []
+owing true owed = owed
+owing false owed = owed ++ journal_text newest 0 []
 
 -- where the first line of a journal was not given yet, nothing was taken or given
 abbrev pub IsUnbegun : Bool → Bool → List ℕ → List ℕ → Type 0
-IsUnbegun true journal bytes due = ⊤
-IsUnbegun false journal bytes due = IsTrue journal × (bytes ≡ []) × (due ≡ [])
+IsUnbegun true journal bytes owed = ⊤
+IsUnbegun false journal bytes owed = IsTrue journal × (bytes ≡ []) × (owed ≡ [])
 
 -- the first line of a journal was given before anything was taken
 abbrev pub GaveFirstLine : Bool → List ℕ → List ℕ → List ℕ → Type 0
@@ -70,7 +70,7 @@ module _ {K : Type 0} (G : Ghosts K) where
   AnswersMessage message old new answer =
       Answers G.can_count message (state_of old) (state_of new) answer
 
-  -- it was, and what is due for it satisfies this
+  -- it was, and what is owed for it satisfies this
   abbrev pub LeavesAnswered : Output → (List ℕ → Type 0) → Message → Responder K → Responder K
       → Type 0
   LeavesAnswered output gives message old new =
@@ -83,14 +83,15 @@ module _ {K : Type 0} (G : Ghosts K) where
     pub reader : new.stream.reader ≡ old.stream.reader
     pub floor : G.floor new.desk.keeper ≡ G.floor old.desk.keeper
 
-  -- The bytes are messages that were answered and a rest, and the bytes that are due are what a run
-  -- of the messages writes.
-  pub record HasAnswered (first now : Responder K) (bytes rest due : List ℕ) : Type 0 where
+  -- The bytes are messages that were answered and a rest, and the bytes that are owed are what a
+  -- run of the messages writes.
+  pub record HasAnswered (first now : Responder K) (bytes rest owed : List ℕ) : Type 0 where
     pub pipe : now.pipe ≡ first.pipe
     pub floor : G.floor now.desk.keeper ≡ G.floor first.desk.keeper
-    pub progress : Progress G.can_count first.pipe bytes due (record (state_of now) { held = rest })
+    pub progress : Progress G.can_count first.pipe bytes owed
+        (record (state_of now) { held = rest })
 
-  -- The same, and what is due is in two parts: for the messages before the last, and for the last.
+  -- The same, and what is owed is in two parts: for the messages before the last, and for the last.
   pub record HasAnsweredLast (first now : Responder K) (bytes rest whole last : List ℕ) : Type 0
     where
       pub pipe : now.pipe ≡ first.pipe
@@ -101,9 +102,9 @@ module _ {K : Type 0} (G : Ghosts K) where
   -- ---- the consumer
 
   abbrev pub Went : Responder K → Responder K → List ℕ → List ℕ → Type 0
-  Went first now bytes due = (rest : List ℕ) × IsRest now.stream.reader rest
-      × HasAnswered first now bytes rest (owing now.is_begun due)
-      × IsUnbegun now.is_begun first.pipe.journal bytes due
+  Went first now bytes owed = (rest : List ℕ) × IsRest now.stream.reader rest
+      × HasAnswered first now bytes rest (owing now.is_begun owed)
+      × IsUnbegun now.is_begun first.pipe.journal bytes owed
 
   abbrev pub Gave : Responder K → Responder K → List ℕ → List ℕ → List ℕ → Type 0
   Gave first now bytes whole last = (rest : List ℕ)
@@ -124,8 +125,8 @@ module _ {K : Type 0} (G : Ghosts K) where
       × ((rest : List ℕ) × (rest ≢ []) × HasNoMessage SpellsRequest rest
       × HasAnswered first now bytes rest whole)
 
-  -- all that is due was given, or, in a journal, all but the last line
+  -- all that is owed was given, or, in a journal, all but the last line
   abbrev pub Lacks : Responder K → Responder K → List ℕ → List ℕ → Type 0
-  Lacks first now bytes due = (rest : List ℕ) × (HasAnswered first now bytes rest due
+  Lacks first now bytes owed = (rest : List ℕ) × (HasAnswered first now bytes rest owed
       ⊎ (IsTrue first.pipe.journal × ((line : List ℕ)
-      × HasAnsweredLast first now bytes rest due line)))
+      × HasAnsweredLast first now bytes rest owed line)))

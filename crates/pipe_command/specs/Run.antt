@@ -1,10 +1,11 @@
 -- A run of `pipe`, from the bytes that were taken to those that were written.
-use Rattle.std.specs.Prelude.{◌⊎◌, ◌≢◌, ◌≡◌, ℕ, ◌<◌, ◌≤◌, ◌^◌, List, [], ◌++◌, length, take, Option, Some, None, IsTrue, ⊤}
+use Rattle.std.specs.Prelude.{◌⊎◌, ◌≡◌, ℕ, ◌<◌, ◌≤◌, ◌^◌, List, [], ◌++◌, length, take, Option, Some, None, IsTrue, ⊤}
 use Rattle.std.specs.List.{AllByRecursion}
+use Rattle.asp_base.specs.Limits.{most_input}
 use Rattle.asp_base.specs.Outside.{Gives, IsAtEnd, Takes}
 use Rattle.asp_messages.specs.declared.request.Message.{Message}
 use Rattle.asp_messages.specs.RequestSpelling.{SpellsRequest}
-use Rattle.asp_messages.specs.Stream.{Spelled, HasNoMessage, IsHopeless}
+use Rattle.asp_messages.specs.Stream.{Spelled, HasNoMessage}
 use Rattle.lock_laws.specs.Laws.{LocksHold, NeverFaults}
 use Rattle.keeper.specs.Items.{NeverCounts}
 use Rattle.session_machine.specs.declared.entry.Entry.{Entry}
@@ -13,6 +14,7 @@ use Rattle.session_machine.specs.History.{nothing}
 use Rattle.session_machine.specs.Profiles.{newest}
 use Rattle.journal_text.specs.WritingText.{journal_text}
 use Rattle.shard_core.specs.Standing.{StandsFor}
+use Rattle.stream_core.specs.Whole.{IsBroken}
 use Rattle.pipe_command.specs.declared.pipe.Pipe.{Pipe}
 use Rattle.pipe_command.specs.declared.pipe.Verdict.{Verdict}
 use Rattle.pipe_command.specs.declared.pipe.Verdict.TheVariants.{Whole, Broken}
@@ -32,12 +34,7 @@ pub record PipeFits (pipe : Pipe) : Type 0 where
   pub step : pipe.step ≤ 2 ^ 62
   pub some : 0 < pipe.first
   pub first : pipe.first < 2 ^ 63
-  pub most : pipe.most ≤ 2 ^ 40
-
--- the rest is no whole messages: it is not empty, and no bytes can follow that make a message of
--- it, or the input ended inside it
-abbrev pub IsBroken : Option (List ℕ × List ℕ) → List ℕ → Type 0
-IsBroken source' rest = (rest ≢ []) × (IsHopeless SpellsRequest rest ⊎ IsAtEnd source')
+  pub most : pipe.most ≤ most_input
 
 -- Where a run stood when it ended: what it was told, the flow of its bytes, the messages that were
 -- answered and their entries, the rest that is no whole message, and how many bytes were taken.
@@ -49,11 +46,11 @@ pub record Reached : Type 0 where
   pub rest : List ℕ
   pub count : ℕ
 
--- the bytes that are due for the messages: replies, or a journal
-abbrev pub due_in : Reached → List ℕ
-due_in r = written_as (output_of r.pipe.journal) r.messages r.list
+-- the bytes that are owed for the messages: replies, or a journal
+abbrev pub owed_in : Reached → List ℕ
+owed_in r = written_as (output_of r.pipe.journal) r.messages r.list
 
--- the bytes that are due behind them for a rest that is no whole messages
+-- the bytes that are owed behind them for a rest that is no whole messages
 abbrev pub closing_in : Reached → List ℕ
 closing_in r = closing (output_of r.pipe.journal)
 
@@ -61,8 +58,8 @@ closing_in r = closing (output_of r.pipe.journal)
 abbrev pub Wrote : Reached → List ℕ → Type 0
 Wrote r bytes = Takes r.flow.sink r.flow.sink' bytes
 
--- Of what is due for the last message the sink took so many bytes: its reply, or its entry's line.
--- What is due for the messages before it was written whole.
+-- Of what is owed for the last message the sink took so many bytes: its reply, or its entry's line.
+-- What is owed for the messages before it was written whole.
 pub record WroteInPart (r : Reached) (count : ℕ) : Type 0 where
   pub whole : List ℕ
   pub last : List ℕ
@@ -75,28 +72,28 @@ abbrev pub WroteFirstInPart : Reached → ℕ → Type 0
 WroteFirstInPart r count = IsTrue r.pipe.journal × (r.count ≡ 0)
     × (count ≤ length (journal_text newest 0 [])) × Wrote r (take count (journal_text newest 0 []))
 
--- the sink took all that is due for the messages, and so many bytes of the closing behind it
+-- the sink took all that is owed for the messages, and so many bytes of the closing behind it
 abbrev pub WroteClosingInPart : Reached → ℕ → Type 0
 WroteClosingInPart r count =
-    (count ≤ length (closing_in r)) × Wrote r (due_in r ++ take count (closing_in r))
+    (count ≤ length (closing_in r)) × Wrote r (owed_in r ++ take count (closing_in r))
 
 -- the rest is none, and the most bytes were not taken
 abbrev pub StopsBroken : Reached → Type 0
 StopsBroken r =
     IsBroken r.flow.source' r.rest × HasNoMessage SpellsRequest r.rest × (r.count < r.pipe.most)
 
--- What holds at each ending. Where memory was wanting, all that is due was written, or, in a
+-- What holds at each ending. Where memory was wanting, all that is owed was written, or, in a
 -- journal, all but the last entry's line.
 abbrev pub EndsAs : End → Reached → Type 0
 EndsAs (Over Whole) r =
-    IsAtEnd r.flow.source' × (r.rest ≡ []) × (r.count < r.pipe.most) × Wrote r (due_in r)
-EndsAs (Over Broken) r = StopsBroken r × Wrote r (due_in r ++ closing_in r)
+    IsAtEnd r.flow.source' × (r.rest ≡ []) × (r.count < r.pipe.most) × Wrote r (owed_in r)
+EndsAs (Over Broken) r = StopsBroken r × Wrote r (owed_in r ++ closing_in r)
 EndsAs ReadFault r =
-    HasNoMessage SpellsRequest r.rest × (r.count < r.pipe.most) × Wrote r (due_in r)
+    HasNoMessage SpellsRequest r.rest × (r.count < r.pipe.most) × Wrote r (owed_in r)
 EndsAs WriteFault r = (n : ℕ) × (WroteInPart r n ⊎ (WroteFirstInPart r n
     ⊎ (StopsBroken r × WroteClosingInPart r n)))
-EndsAs NoMemory r = Wrote r (due_in r) ⊎ (IsTrue r.pipe.journal × WroteInPart r 0)
-EndsAs Long r = HasNoMessage SpellsRequest r.rest × (r.count ≡ r.pipe.most) × Wrote r (due_in r)
+EndsAs NoMemory r = Wrote r (owed_in r) ⊎ (IsTrue r.pipe.journal × WroteInPart r 0)
+EndsAs Long r = HasNoMessage SpellsRequest r.rest × (r.count ≡ r.pipe.most) × Wrote r (owed_in r)
 
 -- the exit status of what was found
 abbrev pub verdict_number : Verdict → ℕ
@@ -144,9 +141,3 @@ pub record IsRun (CanCount : ℕ → Type 0) (pipe : Pipe) (f : Flow)
     rest = rest;
     count = length bytes;
   })
-
--- the input is whole messages of fewer than so many bytes
-abbrev pub IsWholeInput : Option (List ℕ × List ℕ) → ℕ → Type 0
-IsWholeInput None most = ⊥
-IsWholeInput (Some told) most =
-    (length told.1 < most) × ((ms : List Message) × Spelled SpellsRequest told.1 ms [])

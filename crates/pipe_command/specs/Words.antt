@@ -1,6 +1,7 @@
 -- The words of a command line: the table of commands.
-use Rattle.std.specs.Prelude.{ℕ, ◌^◌, List, [], ◌∷◌, codes, Option, Some, None, Bool, true, false, nat_lt, if◌then◌else◌}
+use Rattle.std.specs.Prelude.{ℕ, List, [], ◌∷◌, codes, Option, Some, None, Bool, true, false, nat_lt, if◌then◌else◌}
 use Rattle.std.specs.Str.{bytes_eq}
+use Rattle.asp_base.specs.Limits.{most_input}
 use Rattle.asp_base.specs.Moments.{last_moment}
 use Rattle.asp_base.specs.Numbers.{number_of}
 use Rattle.asp_messages.specs.Fields.{most_cookie}
@@ -18,7 +19,7 @@ pipe_with journal (Some start) (Some step) (Some first) =
       step = step;
       first = first;
       journal = journal;
-      most = 2 ^ 40;
+      most = most_input;
     }))
     else None
 pipe_with journal start step first = None

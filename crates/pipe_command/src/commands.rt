@@ -8,8 +8,8 @@ ghost use Rattle.pipe_command.specs.Words.{command_of};
 
 use crate::identifiers::write_id;
 use crate::pipe_run::run_pipe;
-use crate::words::{Command, MOST_INPUT, command_of};
-use asp_base::{Sink, Source};
+use crate::words::{Command, command_of};
+use asp_base::{MOST_INPUT, Sink, Source, status};
 use journal_replay::run_replay;
 use keeper::{Keeper, Ran};
 use load_generator::run_load;
@@ -70,6 +70,9 @@ pub fn command<S: Source, T: Sink, K: Keeper>(
             keeper,
         },
         Some(Command::Drive) => run_drive(alloc, MOST_INPUT, source, sink, keeper),
-        None => Ran { status: 2, keeper },
+        None => Ran {
+            status: status::NO_COMMAND,
+            keeper,
+        },
     }
 }

@@ -4,9 +4,11 @@ ghost use Rattle.asp_base.specs.Causes.{Rose};
 ghost use Rattle.session_id.specs.Identifiers.{text_of};
 ghost use Rattle.pipe_command.specs.Commands.{WritesLine};
 
-use asp_base::{Failed, Sink};
+use asp_base::{Failed, FixedText, Sink, status, write_text};
 use session_id::Id;
-use stream_run::{Text, write_text};
+
+/// An identifier's 24 bytes and a line feed.
+const LINE: usize = 25;
 
 /// Writes the identifier of 15 bytes and a line feed, and answers a status: 0, or 5 where the sink
 /// failed. It takes no memory.
@@ -17,8 +19,8 @@ pub fn write_id<T: Sink>(random: [u8; 15], sink: &mut T) -> u8
     ensures sink_count { T.faults sink.old ≤ T.faults sink.new }
 {
     let text = Id::from_random(random).text();
-    match write_text(sink, &mut Text::new(), &text, b"\n") {
-        Ok(()) => 0,
-        Err(Failed) => 5,
+    match write_text(sink, &mut FixedText::<LINE>::new(), &text, b"\n") {
+        Ok(()) => status::DONE,
+        Err(Failed) => status::WRITE_FAULT,
     }
 }

@@ -2,6 +2,7 @@
 ghost use Rattle.std.specs.Prelude.{◌≡◌};
 ghost use Rattle.pipe_command.specs.PlainRun.{output_of};
 
+use asp_base::status;
 use stream_run::Status;
 
 /// What a run of `pipe` is told.
@@ -60,8 +61,8 @@ impl Status for Verdict {
 
     fn number(&self) -> u8 {
         match self {
-            Verdict::Whole => 0,
-            Verdict::Broken => 3,
+            Verdict::Whole => status::DONE,
+            Verdict::Broken => status::NOT_WHOLE,
         }
     }
 }

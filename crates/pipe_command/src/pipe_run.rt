@@ -2,8 +2,9 @@
 ghost use Rattle.std.specs.Prelude.{◌≡◌, ◌⊎◌, ◌≤◌};
 ghost use Rattle.asp_base.specs.Causes.{Rose};
 ghost use Rattle.keeper.specs.Items.{IsEmptyTold};
+ghost use Rattle.stream_core.specs.Whole.{IsWholeInput};
 ghost use Rattle.stream_run.specs.Flow.{flow};
-ghost use Rattle.pipe_command.specs.Run.{End, PipeFits, IsRun, IsWholeInput, status_number};
+ghost use Rattle.pipe_command.specs.Run.{End, PipeFits, IsRun, status_number};
 
 use crate::pipe::Pipe;
 use crate::responder::Responder;

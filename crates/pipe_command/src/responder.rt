@@ -4,8 +4,8 @@ ghost use Rattle.std.specs.Prelude.{◌≡◌, ◌⊎◌, ◌≤◌, ◌++◌, [
 ghost use Rattle.asp_messages.specs.Ranges.{RequestFits, ReplyFits};
 ghost use Rattle.keeper.specs.Items.{IsEmptyTold};
 ghost use Rattle.session_machine.specs.History.{DrawFits, HasPlace};
+ghost use Rattle.stream_core.specs.Whole.{IfFit};
 ghost use Rattle.pipe_command.specs.declared.pipe.Output.TheVariants as outputs;
-ghost use Rattle.pipe_command.specs.Answering.{IfFit};
 ghost use Rattle.pipe_command.specs.Giving.{given_body, given_head};
 ghost use Rattle.pipe_command.specs.PlainRun.{closing, output_of};
 ghost use Rattle.pipe_command.specs.Responding.{AnswersMessage, Keeps, LeavesAnswered, Went, given};
@@ -125,7 +125,7 @@ impl<K: Keeper> Responder<K> {
     fn reply(&mut self, message: Message)
         requires message { IfFit message RequestFits }
         ensures answered { LeavesAnswered ⟦<K as Keeper>⟧ outputs.Replies
-            (λ due. given self.new ≡ due) message self.old self.new }
+            (λ owed. given self.new ≡ owed) message self.old self.new }
         ensures keeps { Keeps ⟦<K as Keeper>⟧ self.old self.new }
     {
         let answer = self.act(message);
@@ -137,9 +137,9 @@ impl<K: Keeper> Responder<K> {
     fn note_request(&mut self, request: Request) -> Result<(), NoMemory>
         requires request { RequestFits request }
         ensures noted { OnOk result (LeavesAnswered ⟦<K as Keeper>⟧ outputs.Journal
-            (λ due. given self.new ≡ due) (Message.Fit request) self.old self.new) }
+            (λ owed. given self.new ≡ owed) (Message.Fit request) self.old self.new) }
         ensures no_memory { OnErr result ((self.new ≡ self.old)
-            ⊎ LeavesAnswered ⟦<K as Keeper>⟧ outputs.Journal (λ due. ⊤) (Message.Fit request)
+            ⊎ LeavesAnswered ⟦<K as Keeper>⟧ outputs.Journal (λ owed. ⊤) (Message.Fit request)
             self.old self.new) }
         ensures keeps { Keeps ⟦<K as Keeper>⟧ self.old self.new }
     {
@@ -164,9 +164,9 @@ impl<K: Keeper> Responder<K> {
     fn note(&mut self, message: Message) -> Result<(), NoMemory>
         requires message { IfFit message RequestFits }
         ensures noted { OnOk result (LeavesAnswered ⟦<K as Keeper>⟧ outputs.Journal
-            (λ due. given self.new ≡ due) message self.old self.new) }
+            (λ owed. given self.new ≡ owed) message self.old self.new) }
         ensures no_memory { OnErr result ((self.new ≡ self.old)
-            ⊎ LeavesAnswered ⟦<K as Keeper>⟧ outputs.Journal (λ due. ⊤) message
+            ⊎ LeavesAnswered ⟦<K as Keeper>⟧ outputs.Journal (λ owed. ⊤) message
             self.old self.new) }
         ensures keeps { Keeps ⟦<K as Keeper>⟧ self.old self.new }
     {
@@ -180,15 +180,15 @@ impl<K: Keeper> Responder<K> {
         }
     }
 
-    /// Answers the message that was taken last, and gives what is due for it.
+    /// Answers the message that was taken last, and gives what is owed for it.
     fn answer(&mut self, message: Message) -> Result<(), NoMemory>
         requires message { IfFit message RequestFits }
         ensures answered { OnOk result (LeavesAnswered ⟦<K as Keeper>⟧
-            (output_of self.old.pipe.journal) (λ due. given self.new ≡ due) message
+            (output_of self.old.pipe.journal) (λ owed. given self.new ≡ owed) message
             self.old self.new) }
         ensures journal { OnErr result (IsTrue self.old.pipe.journal) }
         ensures no_memory { OnErr result ((self.new ≡ self.old)
-            ⊎ LeavesAnswered ⟦<K as Keeper>⟧ outputs.Journal (λ due. ⊤) message
+            ⊎ LeavesAnswered ⟦<K as Keeper>⟧ outputs.Journal (λ owed. ⊤) message
             self.old self.new) }
         ensures keeps { Keeps ⟦<K as Keeper>⟧ self.old self.new }
     {

@@ -7,13 +7,10 @@ ghost use Rattle.pipe_command.specs.Words.{command_of, id_of, load_of, pipe_of, 
 
 use crate::path::stored_of;
 use crate::pipe::Pipe;
-use asp_base::{LAST_MOMENT, read_number};
+use asp_base::{LAST_MOMENT, MOST_INPUT, read_number};
 use asp_messages::MOST_COOKIE;
 use load_generator::Load;
 use session_id::read_hex;
-
-/// The most bytes that a command takes from its source.
-pub const MOST_INPUT: u64 = 1 << 40;
 
 /// The most requests of a load.
 const MOST_REQUESTS: u64 = 1_000_000;
