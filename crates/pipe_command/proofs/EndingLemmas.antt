@@ -36,7 +36,7 @@ use Rattle.pipe_command.specs.declared.responder.Responder.{Responder}
 use Rattle.pipe_command.specs.Giving.{given_body, given_head}
 use Rattle.pipe_command.specs.PlainRun.{closing, output_of, written_as}
 use Rattle.pipe_command.specs.Progress.{Progress, ProgressLast}
-use Rattle.pipe_command.specs.Responding.{Breaks, Closes, Gave, HasAnswered, IsUnbegun, Lacks, Waits, Went, owing, state_of, unbegun}
+use Rattle.pipe_command.specs.Responding.{Gave, GaveSo, HasAnswered, IsUnbegun, Lacks, Waits, Went, owing, state_of, unbegun}
 use Rattle.pipe_command.specs.Run.{End, EndsAs, IsRun, PipeFits, Reached, StopsBroken, NeverFails, TellsLocks, Wrote, WroteInPart, closing_in, owed_in}
 use Rattle.pipe_command.proofs.ResponderLemmas.{owed_of, hopeless_none, rest_waits}
 
@@ -136,14 +136,10 @@ module _ {K : Type 0} (G : keepers.Ghosts K) where
   ghosts = record {
     went = Went G;
     waits = Waits;
-    gave = Gave G;
-    breaks = λ broken first now bytes whole last. IsTrue broken.more
-        × Breaks G broken.over first now bytes whole last;
-    closes = Closes G;
+    gave = GaveSo G;
     lacks = Lacks G;
     work = λ now. length now.stream.reader.held + unbegun now.is_begun;
-    head = λ now. given_head now.given now.line.items;
-    body = λ now. given_body now.given;
+    parts = λ now. (given_head now.given now.line.items, given_body now.given);
   }
 
   module _ (most : ℕ) (first now : Responder K) (f : Flow) where

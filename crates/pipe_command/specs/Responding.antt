@@ -7,6 +7,7 @@ use Rattle.journal_text.specs.WritingText.{journal_text}
 use Rattle.desk.specs.Standing.{state_of as desk_state}
 use Rattle.keeper.specs.declared.keeping.Keeper.{Ghosts}
 use Rattle.message_framing.specs.Held.{Held}
+use Rattle.stream_run.specs.Feeding.{Going, GoesOn, OverAnyhow, OverAtEnd}
 use Rattle.pipe_command.specs.declared.pipe.Verdict.{Verdict}
 use Rattle.pipe_command.specs.declared.pipe.Verdict.TheVariants.{Whole, Broken}
 use Rattle.pipe_command.specs.declared.responder.Responder.{Responder}
@@ -124,6 +125,13 @@ module _ {K : Type 0} (G : Ghosts K) where
   Closes Broken first now bytes whole last = (last ≡ closing (output_of first.pipe.journal))
       × ((rest : List ℕ) × (rest ≢ []) × HasNoMessage SpellsRequest rest
       × HasAnswered first now bytes rest whole)
+
+  -- what was given last, as it goes on: with the next message, or over
+  abbrev pub GaveSo : Going Verdict → Responder K → Responder K → List ℕ → List ℕ → List ℕ → Type 0
+  GaveSo GoesOn first now bytes whole last = Gave first now bytes whole last
+  GaveSo (OverAnyhow more verdict) first now bytes whole last =
+      IsTrue more × Breaks verdict first now bytes whole last
+  GaveSo (OverAtEnd verdict) first now bytes whole last = Closes verdict first now bytes whole last
 
   -- all that is owed was given, or, in a journal, all but the last line
   abbrev pub Lacks : Responder K → Responder K → List ℕ → List ℕ → Type 0

@@ -214,9 +214,9 @@ impl<K: Keeper> Responder<K> {
 }
 
 impl<K: Keeper> Consumer for Responder<K> {
-    ghost use Rattle.std.specs.Prelude.{◌+◌, length, IsTrue};
+    ghost use Rattle.std.specs.Prelude.{◌+◌, length};
     ghost use Rattle.pipe_command.specs.Giving.{given_body, given_head};
-    ghost use Rattle.pipe_command.specs.Responding.{Breaks, Closes, Gave, Lacks, Waits, Went, unbegun};
+    ghost use Rattle.pipe_command.specs.Responding.{GaveSo, Lacks, Waits, Went, unbegun};
 
     type Over = Verdict;
 
@@ -224,20 +224,13 @@ impl<K: Keeper> Consumer for Responder<K> {
 
     ghost waits = { Waits };
 
-    ghost gave = { Gave ⟦<K as Keeper>⟧ };
-
-    ghost breaks = { λ broken first now bytes whole last. IsTrue broken.more
-        × Breaks ⟦<K as Keeper>⟧ broken.over first now bytes whole last };
-
-    ghost closes = { Closes ⟦<K as Keeper>⟧ };
+    ghost gave = { GaveSo ⟦<K as Keeper>⟧ };
 
     ghost lacks = { Lacks ⟦<K as Keeper>⟧ };
 
     ghost work = { λ now. length now.stream.reader.held + unbegun now.is_begun };
 
-    ghost head = { λ now. given_head now.given now.line.items };
-
-    ghost body = { λ now. given_body now.given };
+    ghost parts = { λ now. (given_head now.given now.line.items, given_body now.given) };
 
     fn feed(&mut self, piece: &[u8]) -> Result<(), NoMemory> {
         self.stream.take(piece)
@@ -279,19 +272,12 @@ impl<K: Keeper> Consumer for Responder<K> {
         }
     }
 
-    fn head(&self) -> &[u8] {
+    fn parts(&self) -> (&[u8], &[u8]) {
         match &self.given {
-            Given::Nothing => &[],
-            Given::FirstLine => FIRST_LINE,
-            Given::Reply(head, _) => head.as_slice(),
-            Given::Line => self.line.as_slice(),
-        }
-    }
-
-    fn body(&self) -> &[u8] {
-        match &self.given {
-            Given::Reply(_, reply) => reply_body(reply),
-            Given::Nothing | Given::FirstLine | Given::Line => &[],
+            Given::Nothing => (&[], &[]),
+            Given::FirstLine => (FIRST_LINE, &[]),
+            Given::Reply(head, reply) => (head.as_slice(), reply_body(reply)),
+            Given::Line => (self.line.as_slice(), &[]),
         }
     }
 }
