@@ -1,26 +1,21 @@
 //! The program `asp_state`: the out-of-process session state of ASP.NET.
 #![tactic(auto)]
 
-mod serving;
-mod storing;
-mod visiting;
+mod database_file;
+mod serve_sockets;
+mod visit_socket;
 
+use asp_base::status::{NO_COMMAND, NO_MEMORY};
 use asp_base::{HostSink, HostSource};
+use database_file::run_stored;
 use keeper::MapKeeper;
 use pipe_command::{command, path_of};
 use serve_command::serve_words;
-use serving::run_serving;
+use serve_sockets::run_serving;
 use std::process::ExitCode;
 use std::{env, io};
-use storing::run_stored;
 use visit_command::visit_port;
-use visiting::run_visiting;
-
-/// The status where the words are none of the table of commands.
-const NO_COMMAND: u8 = 2;
-
-/// The status where memory is wanting.
-const NO_MEMORY: u8 = 6;
+use visit_socket::run_visiting;
 
 /// The words of the command line behind the program's name, or a status: a word that is no UTF-8 is
 /// none of the table of commands.

@@ -1,17 +1,12 @@
 //! A command whose items are in a database file.
 ghost use Rattle.std.specs.Prelude.{◌≡◌, IfOk};
 
+use asp_base::status::{DATABASE_REFUSED, NO_MEMORY};
 use asp_base::{Sink, Source};
 use keeper::KeepError;
 use pipe_command::command;
 use sqlite::{Connection, Error, ErrorCode, File, FileStore};
 use sqlite_keeper::SqliteKeeper;
-
-/// The status where memory is wanting.
-const NO_MEMORY: u8 = 6;
-
-/// The status where the file or its table was refused for another cause.
-const REFUSED: u8 = 10;
 
 /// The keeper of the items in the file at the path, which is made where it is absent. An error is
 /// the status.
@@ -21,12 +16,12 @@ fn keeper_at(rt: &HostRuntime, path: &str) -> Result<SqliteKeeper<FileStore<File
     let connection = match Connection::open(rt, path) {
         Ok(connection) => connection,
         Err(Error::SqliteFailure(ErrorCode::OutOfMemory)) => return Err(NO_MEMORY),
-        Err(_) => return Err(REFUSED),
+        Err(_) => return Err(DATABASE_REFUSED),
     };
     match SqliteKeeper::over(rt.alloc(), connection) {
         Ok(keeper) => Ok(keeper),
         Err(KeepError::NoMemory) => Err(NO_MEMORY),
-        Err(KeepError::Fault) => Err(REFUSED),
+        Err(KeepError::Fault) => Err(DATABASE_REFUSED),
     }
 }
 
