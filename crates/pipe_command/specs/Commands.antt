@@ -1,7 +1,7 @@
 -- What each command does.
 use Rattle.std.specs.Prelude.{◌≡◌, ◌⊎◌, ◌++◌, ◌∷◌, [], ℕ, List, Option, ⊤}
 use Rattle.asp_base.specs.Limits.{most_input}
-use Rattle.asp_base.specs.Outside.{Takes, TakesFront}
+use Rattle.asp_base.specs.WrittenLine.{WritesLine}
 use Rattle.journal_replay.specs.Replay as replay
 use Rattle.keeper.specs.declared.keeping.Keeper.{Ghosts}
 use Rattle.keeper.specs.declared.ran.Ran.{Ran}
@@ -27,11 +27,6 @@ IfPipe command P = ⊤
 abbrev pub IfLoad : Command → (Load → Type 0) → Type 0
 IfLoad (commands.Load load) P = P load
 IfLoad command P = ⊤
-
--- the line was written on status 0, and a front of it on status 5; there is no other
-abbrev pub WritesLine : ℕ → Option (List ℕ) → Option (List ℕ) → List ℕ → Type 0
-WritesLine status sink sink' line =
-    ((status ≡ 0) × Takes sink sink' line) ⊎ ((status ≡ 5) × TakesFront sink sink' line)
 
 -- What is seen of a call: the source before and after it, what source and sink tell, the keeper
 -- that it was given, and its result.
@@ -66,7 +61,7 @@ module _ {S K : Type 0} (G : Ghosts K) (seen : Seen S K) where
       × drive.IsDrive G.can_count most_input seen.flow
       (G.told seen.result.keeper) (G.count seen.result.keeper) end)
   Does (commands.Id bytes) = (seen.source' ≡ seen.source) × (seen.result.keeper ≡ seen.keeper)
-      × WritesLine seen.result.status seen.flow.sink seen.flow.sink' (text_of bytes ++ 10 ∷ [])
+      × WritesLine seen.result.status 0 seen.flow.sink seen.flow.sink' (text_of bytes ++ 10 ∷ [])
 
 -- What each command does where neither source nor sink fails, if memory is there: whole messages
 -- are answered, a journal is judged, a text that is none is told, a script is run whole.

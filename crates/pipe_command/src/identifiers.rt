@@ -1,8 +1,8 @@
 //! The command `id`.
 ghost use Rattle.std.specs.Prelude.{◌≡◌, ◌≤◌, ◌++◌, ◌∷◌, []};
 ghost use Rattle.asp_base.specs.Causes.{Rose};
+ghost use Rattle.asp_base.specs.WrittenLine.{WritesLine};
 ghost use Rattle.session_id.specs.Identifiers.{text_of};
-ghost use Rattle.pipe_command.specs.Commands.{WritesLine};
 
 use asp_base::{Failed, FixedText, Sink, status, write_text};
 use session_id::Id;
@@ -13,7 +13,7 @@ const LINE: usize = 25;
 /// Writes the identifier of 15 bytes and a line feed, and answers a status: 0, or 5 where the sink
 /// failed. It takes no memory.
 pub fn write_id<T: Sink>(random: [u8; 15], sink: &mut T) -> u8
-    ensures writes { WritesLine result (T.taken sink.old) (T.taken sink.new)
+    ensures writes { WritesLine result 0 (T.taken sink.old) (T.taken sink.new)
         (text_of random ++ 10 ∷ []) }
     ensures fault { result ≡ 5 → Rose (T.faults sink.old) (T.faults sink.new) }
     ensures sink_count { T.faults sink.old ≤ T.faults sink.new }
