@@ -7,8 +7,7 @@
 # another program than crates/asp_state/out/asp_state. The configurations beside it are those of packaging; it puts free ports into them.
 # Outside the gate.
 set -u
-here=$(cd "$(dirname "${BASH_SOURCE[0]}")" && pwd) || exit 1
-top=$(cd "$here/../.." && pwd) || exit 1
+top=$(cd "$(dirname "${BASH_SOURCE[0]}")/../.." && pwd) || exit 1
 # (The program and not the script that runs it, since a server is killed here.)
 program=${ASP_STATE:-$top/crates/asp_state/out/asp_state}
 . "$top/examples/server.sh"
@@ -75,7 +74,7 @@ proxy() {
         words+=(-e "s/127.0.0.1:4243$k/127.0.0.1:${ports[$k]}/")
     done
     words+=(-e "s/maxconn 48 pool-max-conn 48/maxconn 24 pool-max-conn 24/")
-    sed "${words[@]}" "$here/haproxy.cfg" >"$work/haproxy-$1.cfg"
+    sed "${words[@]}" "$top/packaging/haproxy.cfg" >"$work/haproxy-$1.cfg"
     haproxy -db -f "$work/haproxy-$1.cfg" >"$work/haproxy-$1.log" 2>&1 &
     started+=($!)
     await_port "$1"
@@ -84,7 +83,7 @@ proxy() {
 # stunnel with one of its two configurations: the port that it takes, and the one that it leads to.
 tunnel() {
     sed -e "s/^accept = .*/accept = 127.0.0.1:$2/" -e "s/^connect = .*/connect = 127.0.0.1:$3/" \
-        -e "s|^PSKsecrets = .*|PSKsecrets = $work/keys|" "$here/$1" >"$work/$1"
+        -e "s|^PSKsecrets = .*|PSKsecrets = $work/keys|" "$top/packaging/$1" >"$work/$1"
     stunnel "$work/$1" >"$work/$1.log" 2>&1 &
     started+=($!)
     await_port "$2"
