@@ -14,7 +14,7 @@ ghost use Rattle.load_generator.specs.Running.{LoadFits, WritesCounts};
 use crate::counts::Counts;
 use crate::generator::Generator;
 use crate::sweep::sweep;
-use asp_base::{Failed, NoMemory, Sink, write_whole};
+use asp_base::{Failed, NoMemory, Sink, status, write_whole};
 use asp_messages::MOST_COOKIE;
 use desk::Desk;
 use keeper::{Keeper, Ran};
@@ -65,18 +65,18 @@ fn write_counts<T: Sink>(
     ensures sink_count { T.faults sink.old ≤ T.faults sink.new }
 {
     let Ok(text) = counts.text(alloc, requests, removed) else {
-        return 6;
+        return status::NO_MEMORY;
     };
     match write_whole(sink, text.as_slice()) {
-        Ok(()) => 0,
-        Err(Failed) => 5,
+        Ok(()) => status::DONE,
+        Err(Failed) => status::WRITE_FAULT,
     }
 }
 
 /// Makes the requests of a load over the keeper, sweeps at the latest moment, writes the counts,
 /// and hands the keeper back. It reads nothing, waits for nobody, and returns.
 ///
-/// The status is 0; 5 where the sink failed; 6 where memory was wanting, and then nothing was
+/// The status is 0; 5 where the sink failed; 6 where there was no memory, and then nothing was
 /// written.
 pub fn run_load<T: Sink, K: Keeper>(alloc: Global, load: Load, sink: &mut T, keeper: K) -> Ran<K>
     requires load { LoadFits load }
@@ -90,7 +90,7 @@ pub fn run_load<T: Sink, K: Keeper>(alloc: Global, load: Load, sink: &mut T, kee
     let mut desk = Desk::new(alloc, keeper, 1, MOST_COOKIE);
     let Ok(counts) = ask_all(alloc, load, &mut desk) else {
         return Ran {
-            status: 6,
+            status: status::NO_MEMORY,
             keeper: desk.into_keeper(),
         };
     };

@@ -1,6 +1,7 @@
 //! The top call of a run.
-ghost use Rattle.std.specs.Prelude.{◌≡◌, ◌⊎◌, ◌≤◌, ◌^◌};
+ghost use Rattle.std.specs.Prelude.{◌≡◌, ◌⊎◌, ◌≤◌};
 ghost use Rattle.asp_base.specs.Causes.{Rose};
+ghost use Rattle.asp_base.specs.Limits.{most_input};
 ghost use Rattle.keeper.specs.Items.{IsEmptyTold};
 ghost use Rattle.script_runner.specs.Drive.{End, IsDrive, TellsScript, TellsFewer, status_number};
 ghost use Rattle.stream_run.specs.Flow.{flow};
@@ -28,7 +29,7 @@ pub fn run_drive<S: Source, T: Sink, K: Keeper>(
     sink: &mut T,
     keeper: K,
 ) -> Ran<K>
-    requires most { most ≤ 2 ^ 40 }
+    requires most { most ≤ most_input }
     requires no_faults { K.count keeper ≡ 0 }
     requires empty { IsEmptyTold (K.told keeper) }
 

@@ -1,5 +1,6 @@
 //! What a run of a page script finds.
 
+use asp_base::status;
 use stream_run::Status;
 
 /// What the input of a run was.
@@ -21,8 +22,8 @@ impl Status for Verdict {
 
     fn number(&self) -> u8 {
         match self {
-            Verdict::Whole => 0,
-            Verdict::Broken => 3,
+            Verdict::Whole => status::DONE,
+            Verdict::Broken => status::NOT_WHOLE,
         }
     }
 }
