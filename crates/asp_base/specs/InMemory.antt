@@ -28,8 +28,8 @@ pub record SureText : Type 0 where
   pub piece : ℕ
 
 -- one more, up to the last value of a `u64`
-abbrev pub one_more : ℕ → ℕ
-one_more n = min (n + 1) (2 ^ 64 - 1)
+abbrev pub counted_once_more : ℕ → ℕ
+counted_once_more n = min (n + 1) (2 ^ 64 - 1)
 
 -- how many bytes a read gives that does not fail
 abbrev pub read_count : SourceInMemory → List ℕ → ℕ

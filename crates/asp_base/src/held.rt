@@ -2,7 +2,7 @@
 ghost use Rattle.std.specs.Prelude.{◌≡◌, ◌<◌, ◌≤◌, ◌+◌, ◌++◌, [], length, take, drop, slice_index, IfOk, IsOk, OnOk, OnErr, MatchOption};
 ghost use Rattle.asp_base.specs.Places.{HasNone, IsFirstPlace};
 
-use crate::{Bytes, NoMemory, Steps};
+use crate::{Bytes, NoMemory, StepCount};
 use memchr::memchr;
 use std::alloc::Global;
 use std::fmt;
@@ -117,7 +117,7 @@ impl Held {
     }
 
     /// The byte at place `at`, from 0. It counts one step.
-    pub fn look<L: Ledger>(&self, at: u64, steps: &mut Steps<L>) -> u8
+    pub fn look<L: Ledger>(&self, at: u64, steps: &mut StepCount<L>) -> u8
         requires { at < length self.now }
         ensures byte { result ≡ slice_index self.now at }
         ensures steps { steps.new ≡ steps.old + 1 }
@@ -128,7 +128,13 @@ impl Held {
 
     /// The first place of the byte from `from` on and before `to`; `None` where it has none there.
     /// It counts a step for each byte up to that place, which is among them, or up to `to`.
-    pub fn find<L: Ledger>(&self, byte: u8, from: u64, to: u64, steps: &mut Steps<L>) -> Option<u64>
+    pub fn find<L: Ledger>(
+        &self,
+        byte: u8,
+        from: u64,
+        to: u64,
+        steps: &mut StepCount<L>,
+    ) -> Option<u64>
         requires from { from ≤ to }
         requires to { to ≤ length self.now }
         ensures place { MatchOption result (HasNone byte self.now from to)
@@ -151,7 +157,7 @@ impl Held {
     }
 
     /// The first `n` bytes. It counts `n` steps.
-    pub fn front<L: Ledger>(&self, n: u64, steps: &mut Steps<L>) -> &[u8]
+    pub fn front<L: Ledger>(&self, n: u64, steps: &mut StepCount<L>) -> &[u8]
         requires { n ≤ length self.now }
         ensures bytes { result.now ≡ take n self.now }
         ensures steps { steps.new ≡ steps.old + n }

@@ -2,7 +2,7 @@
 //! counts.
 ghost use Rattle.std.specs.Prelude.{◌≡◌, ◌<◌, ◌↔◌, ◌+◌, ◌-◌, [], length, min, Some, None, IfOk, IsOkAnd, IsErr, MatchResult, Contains, ◌^◌};
 ghost use Rattle.asp_base.specs.Causes.{HasCause};
-ghost use Rattle.asp_base.specs.InMemory.{one_more, write_count, FailsWrite};
+ghost use Rattle.asp_base.specs.InMemory.{counted_once_more, write_count, FailsWrite};
 ghost use Rattle.asp_base.specs.Outside.{Writes};
 
 use crate::{Failed, NoMemory, Sink};
@@ -79,7 +79,7 @@ impl MemorySink {
     }
 
     fn failed(&mut self) -> Failed
-        ensures { self.new ≡ record self.old { faults = one_more self.old.faults } }
+        ensures { self.new ≡ record self.old { faults = counted_once_more self.old.faults } }
     {
         self.faults = self.faults.saturating_add(1);
         Failed
@@ -99,12 +99,12 @@ impl Sink for MemorySink {
         // else.
         ensures fails { IsErr result ↔ FailsWrite self.old piece.now }
         ensures count { IfOk result (λ n. n ≡ write_count self.old piece.now) }
-        ensures calls { self.new.calls ≡ one_more self.old.calls }
+        ensures calls { self.new.calls ≡ counted_once_more self.old.calls }
 
         // Each failure is counted, and nothing else is; the room shrinks by what is taken, and what
         // it was made for stays.
         ensures counted { MatchResult result (λ _. self.new.faults ≡ self.old.faults)
-            (λ _. self.new.faults ≡ one_more self.old.faults) }
+            (λ _. self.new.faults ≡ counted_once_more self.old.faults) }
         ensures room { MatchResult result (λ n. self.new.room + n ≡ self.old.room)
             (λ _. self.new.room ≡ self.old.room) }
         ensures piece { self.new.piece ≡ self.old.piece }

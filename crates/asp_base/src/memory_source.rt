@@ -1,7 +1,7 @@
 //! Sources in memory: one that fails where it is told to, and one that never fails.
 ghost use Rattle.std.specs.Prelude.{◌≡◌, ◌+◌, ◌<◌, ◌≤◌, ◌↔◌, [], ◌++◌, length, take, drop, min, Some, IfOk, IsOkAnd, IsErr, MatchResult, Contains};
 ghost use Rattle.asp_base.specs.Causes.{HasCause};
-ghost use Rattle.asp_base.specs.InMemory.{one_more, read_count};
+ghost use Rattle.asp_base.specs.InMemory.{counted_once_more, read_count};
 ghost use Rattle.asp_base.specs.Outside.{Reads};
 
 use crate::{Bytes, Failed, Source};
@@ -94,11 +94,11 @@ impl Source for MemorySource {
         // It fails at the listed reads and nowhere else.
         ensures fails { IsErr result ↔ Contains self.old.fails self.old.calls }
         ensures count { IfOk result (λ n. n ≡ read_count self.old buf.old) }
-        ensures calls { self.new.calls ≡ one_more self.old.calls }
+        ensures calls { self.new.calls ≡ counted_once_more self.old.calls }
 
         // Each failure is counted, and nothing else is; what it was made for stays.
         ensures counted { MatchResult result (λ _. self.new.faults ≡ self.old.faults)
-            (λ _. self.new.faults ≡ one_more self.old.faults) }
+            (λ _. self.new.faults ≡ counted_once_more self.old.faults) }
         ensures piece { self.new.piece ≡ self.old.piece }
         ensures listed { self.new.fails ≡ self.old.fails }
     {

@@ -8,21 +8,22 @@ use Rattle.asp_messages.specs.declared.reply.Reply.TheVariants.{Found, Done, Loc
 use Rattle.asp_messages.specs.Fields.{Field, Occurrence, absent, one, twice, once, at_least, body_length, most_body, most_cookie, most_minutes, number_needed, lock_cookie_field, named, response_fields}
 use Rattle.asp_messages.specs.Head.{most_head, IsReplyHead}
 use Rattle.asp_messages.specs.Ranges.{ReplyFits, SinceFits}
-use Rattle.asp_messages.specs.ReplySpelling.{Answer, reply, SpellsReply, answer_of, reply_of, strange_unless, found_reply, done_reply, ok_reply, locked_reply, plain_reply, minutes_field, action_flags_field, holder_field, age_field, most_age, since_field, most_since}
+use Rattle.asp_messages.specs.ReplySpelling.{StreamAnswer, reply, SpellsReply, answer_spelled, reply_of, strange_unless, found_reply, done_reply, ok_reply, locked_reply, plain_reply, minutes_field, action_flags_field, holder_field, age_field, most_age, since_field, most_since}
 use Rattle.asp_messages.specs.Stream.{HasNoMessage, IsWaiting}
 use Rattle.asp_messages.proofs.FramingLemmas.{body_length-le, number_or-in, number_needed-le, split_alike, waiting-short}
 use Rattle.asp_messages.proofs.RequestLemmas.{named-fits, lock_cookie-le}
 use Rattle.asp_messages.proofs.StreamLemmas.{IsUnique}
 
 -- the head of a spelling, with what comes behind it
-pub reply_reads_more : (bytes : List ℕ) (a : Answer) (s : SpellsReply bytes a) (back : List ℕ)
+pub reply_reads_more : (bytes : List ℕ) (a : StreamAnswer) (s : SpellsReply bytes a) (back : List ℕ)
     → ReadsResponse (bytes ++ back) s.head (s.body ++ back)
 reply_reads_more bytes a s back =
     let h = ReadsResponse-append s.framed.front s.head [] (s.body ++ back) s.framed.is_head.reads in
     (h.0, ap (λ t. t ++ back) s.framed.bytes_are ∙ append_assoc s.framed.front s.body back ∙ h.1)
 
 -- a spelling is not empty
-pub reply_spelling_some : (bytes : List ℕ) (a : Answer) → SpellsReply bytes a → 0 < length bytes
+pub reply_spelling_some : (bytes : List ℕ) (a : StreamAnswer) → SpellsReply bytes a
+    → 0 < length bytes
 reply_spelling_some bytes a s =
     let whole = ap length (s.framed.is_head.reads.1 ∙ print_response-append s.head []) in
     let parts = simp length-append at whole in
@@ -45,8 +46,8 @@ SpellsReply-unique bytes front back front' back' a a' is s is' s' =
     let len = some_same _ _ (sym s.framed.announced
     ∙ ap (λ h. body_length (response_fields h)) same.0 ∙ s'.framed.announced) in
     let parts = split_alike s.body back s'.body back' len same.1 in (
-      s.answer_is ∙ ap (λ h. answer_of (status_code h) (response_fields h) s.body) same.0
-          ∙ ap (λ b. answer_of (status_code s'.head) (response_fields s'.head) b) parts.0
+      s.answer_is ∙ ap (λ h. answer_spelled (status_code h) (response_fields h) s.body) same.0
+          ∙ ap (λ b. answer_spelled (status_code s'.head) (response_fields s'.head) b) parts.0
           ∙ sym s'.answer_is,
       parts.1,
     )

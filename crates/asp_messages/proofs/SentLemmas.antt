@@ -13,7 +13,7 @@ use Rattle.httparse.proofs.GrammarLemmas.{cons-append}
 use Rattle.asp_messages.specs.declared.request.Message.{Message}
 use Rattle.asp_messages.specs.Fields.{Field, body_length}
 use Rattle.asp_messages.specs.Head as heads
-use Rattle.asp_messages.specs.ReplySpelling.{Answer, SpellsReply, answer_of}
+use Rattle.asp_messages.specs.ReplySpelling.{StreamAnswer, SpellsReply, answer_spelled}
 use Rattle.asp_messages.specs.ReplyText.{line}
 use Rattle.asp_messages.specs.RequestSpelling.{SpellsRequest, message_of}
 use Rattle.asp_messages.proofs.DecimalLemmas.{decimal-short, decimal-trimmed, decimal-value}
@@ -146,11 +146,12 @@ reply_lines-short digits phrase fields three short are few =
     )
 
 -- what is written of a reply spells it
-pub reply_sent : (digits phrase : List ℕ) (fields : List Field) (body : List ℕ) (answer : Answer)
+pub reply_sent : (digits phrase : List ℕ) (fields : List Field) (body : List ℕ)
+    (answer : StreamAnswer)
     → list_all is_ascii_digit digits ≡ true → length digits ≡ 3
     → list_all is_value_byte phrase ≡ true → length phrase ≤ 40
     → AreSent fields → length fields ≤ 5 → body_length fields ≡ Some (length body)
-    → answer ≡ answer_of (digits_value 10 digits) fields body
+    → answer ≡ answer_spelled (digits_value 10 digits) fields body
     → SpellsReply (reply_lines digits phrase fields ++ body) answer
 reply_sent digits phrase fields body answer all three text short are few announced is =
     let head = sent_reply digits phrase fields in

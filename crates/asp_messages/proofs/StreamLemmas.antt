@@ -1,6 +1,6 @@
 -- Streams of messages, of any kind.
 use Rattle.std.proofs.Common.{◌≡◌, ℕ, List, [], ◌∷◌, ◌++◌, refl, sym, ap, ◌∙◌, append_assoc, subst}
-use Rattle.asp_messages.specs.Stream.{Spelled, IsStream}
+use Rattle.asp_messages.specs.Stream.{Spelled, IsMessageStream}
 
 -- a message that comes behind those read
 pub Spelled-push : {M : Type 0} (Spells : List ℕ → M → Type 0) (bytes : List ℕ) (ms : List M)
@@ -33,10 +33,10 @@ IsUnique {M} Spells =
     → (m ≡ m') × (back ≡ back')
 
 -- where bytes begin with at most one message, they are one stream
-pub IsStream-unique : {M : Type 0} (Spells : List ℕ → M → Type 0) → IsUnique Spells
-    → (bytes : List ℕ) (ms ns : List M) (rest rest' : List ℕ) → IsStream Spells bytes ms rest
-    → IsStream Spells bytes ns rest' → (ms ≡ ns) × (rest ≡ rest')
-IsStream-unique {M} Spells unique bytes ms ns rest rest' one other =
+pub IsMessageStream-unique : {M : Type 0} (Spells : List ℕ → M → Type 0) → IsUnique Spells
+    → (bytes : List ℕ) (ms ns : List M) (rest rest' : List ℕ) → IsMessageStream Spells bytes ms rest
+    → IsMessageStream Spells bytes ns rest' → (ms ≡ ns) × (rest ≡ rest')
+IsMessageStream-unique {M} Spells unique bytes ms ns rest rest' one other =
     by_list bytes ms ns one.spelled other.spelled
   where
     by_list : (bytes : List ℕ) (ms ns : List M) → Spelled Spells bytes ms rest

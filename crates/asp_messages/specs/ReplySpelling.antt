@@ -9,9 +9,9 @@ use Rattle.asp_messages.specs.Head.{IsReplyHead}
 use Rattle.asp_messages.specs.Stream.{IsFramed}
 
 -- what a whole message of a reply stream says: a reply, or a status with a form that is no reply's
-pub data Answer : Type 0 where
-  reply : Reply → Answer
-  strange : ℕ → Answer
+pub data StreamAnswer : Type 0 where
+  reply : Reply → StreamAnswer
+  strange : ℕ → StreamAnswer
 
 -- ---- fields
 
@@ -91,17 +91,17 @@ reply_of status fields body =
 
 -- ---- messages
 
-abbrev pub strange_unless : ℕ → Option Reply → Answer
+abbrev pub strange_unless : ℕ → Option Reply → StreamAnswer
 strange_unless status None = strange status
 strange_unless status (Some r) = reply r
 
 -- the answer of a head's parts and a body
-abbrev pub answer_of : ℕ → List Field → List ℕ → Answer
-answer_of status fields body = strange_unless status (reply_of status fields body)
+abbrev pub answer_spelled : ℕ → List Field → List ℕ → StreamAnswer
+answer_spelled status fields body = strange_unless status (reply_of status fields body)
 
 -- The bytes are a response head and the body that it announces, and they say this answer.
-pub record SpellsReply (bytes : List ℕ) (answer : Answer) : Type 0 where
+pub record SpellsReply (bytes : List ℕ) (answer : StreamAnswer) : Type 0 where
   pub head : ResponseHead
   pub body : List ℕ
   pub framed : IsFramed IsReplyHead response_fields bytes head body
-  pub answer_is : answer ≡ answer_of (status_code head) (response_fields head) body
+  pub answer_is : answer ≡ answer_spelled (status_code head) (response_fields head) body

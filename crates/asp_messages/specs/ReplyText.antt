@@ -16,7 +16,7 @@ abbrev pub cookie_line : Option ℕ → List ℕ
 cookie_line None = []
 cookie_line (Some cookie) = number_line (codes "LockCookie") cookie
 
--- the line that tells the first reader of an uninitialised item
+-- the line that tells the first reader of an uninitialized item
 abbrev pub first_line : Bool → List ℕ
 first_line first = if first then line (codes "ActionFlags: 1") else []
 
@@ -63,13 +63,13 @@ abbrev pub reply_text : Reply → List ℕ
 reply_text reply = head_text reply ++ body_of reply
 
 -- the number in the status line
-abbrev pub status_number : Reply → ℕ
-status_number (Found body minutes cookie first) = 200
-status_number Done = 200
-status_number (Locked cookie age since) = 423
-status_number Missing = 404
-status_number Bad = 400
-status_number KeeperFault = 500
-status_number NoMemory = 503
-status_number CookiesOut = 507
-status_number PlacesOut = 508
+abbrev pub http_status : Reply → ℕ
+http_status (Found body minutes cookie first) = 200
+http_status Done = 200
+http_status (Locked cookie age since) = 423
+http_status Missing = 404
+http_status Bad = 400
+http_status KeeperFault = 500
+http_status NoMemory = 503
+http_status CookiesOut = 507
+http_status PlacesOut = 508

@@ -33,7 +33,7 @@ verb_text (Write body minutes fresh cookie) = codes "PUT"
 verb_text (Remove cookie) = codes "DELETE"
 verb_text Reset = codes "HEAD"
 
--- the line that makes an item uninitialised
+-- the line that makes an item uninitialized
 abbrev pub fresh_line : Bool → List ℕ
 fresh_line fresh = if fresh then line (codes "ExtraFlags: 1") else []
 

@@ -28,7 +28,8 @@ HasNoMessage {M} Spells bytes = (front back : List ℕ) (m : M) → bytes ≡ fr
     → Spells front m → ⊥
 
 -- The bytes are these messages and a rest that begins with no message.
-pub record IsStream {M : Type 0} (Spells : List ℕ → M → Type 0) (bytes : List ℕ) (ms : List M)
+pub record IsMessageStream {M : Type 0} (Spells : List ℕ → M → Type 0) (bytes : List ℕ)
+    (ms : List M)
     (rest : List ℕ) : Type 0 where
   pub spelled : Spelled Spells bytes ms rest
   pub unfinished : HasNoMessage Spells rest

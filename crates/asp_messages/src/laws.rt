@@ -5,12 +5,12 @@ ghost use Rattle.asp_messages.specs.declared.request.Message.{Message};
 ghost use Rattle.asp_messages.specs.Fields.{most_body, request_fields};
 ghost use Rattle.asp_messages.specs.Head.{most_head, IsRequestHead};
 ghost use Rattle.asp_messages.specs.RequestSpelling.{SpellsRequest};
-ghost use Rattle.asp_messages.specs.Stream.{IsStream, IsWaiting};
+ghost use Rattle.asp_messages.specs.Stream.{IsMessageStream, IsWaiting};
 
 /// A byte list is one stream of requests: it has one list of messages and one rest.
 pub fn one_stream()
     ensures { (bytes : List ℕ) (ms ns : List Message) (rest other : List ℕ)
-        → IsStream SpellsRequest bytes ms rest → IsStream SpellsRequest bytes ns other
+        → IsMessageStream SpellsRequest bytes ms rest → IsMessageStream SpellsRequest bytes ns other
         → (ms ≡ ns) × (rest ≡ other) }
 {}
 

@@ -4,7 +4,7 @@
 
 mod append;
 mod laws;
-mod plain;
+mod plain_spelling;
 mod ranges;
 mod reply;
 mod reply_text;
@@ -14,7 +14,7 @@ mod wire;
 
 pub use append::{or_undo, push, push_hex, push_number, then_number};
 pub use laws::{one_stream, waiting_is_short};
-pub use plain::{spell_ask, spell_dated, spell_reply};
+pub use plain_spelling::{spell_ask, spell_dated, spell_reply};
 pub use ranges::{
     MOST_AGE, MOST_BODY, MOST_COOKIE, MOST_KEY, MOST_MINUTES, MOST_SINCE, named, reply_fits,
     request_fits,

@@ -1,6 +1,6 @@
 //! What the state server answers.
 ghost use Rattle.std.specs.Prelude.{◌≡◌};
-ghost use Rattle.asp_messages.specs.ReplyText.{status_number};
+ghost use Rattle.asp_messages.specs.ReplyText.{http_status};
 
 use asp_base::Bytes;
 
@@ -16,7 +16,7 @@ pub enum Reply {
         minutes: u64,
         /// The cookie of the lock that was acquired, where one was.
         cookie: Option<u64>,
-        /// Whether the item was uninitialised until this read.
+        /// Whether the item was uninitialized until this read.
         first: bool,
     },
     /// 200 without content: what was asked is done.
@@ -46,7 +46,7 @@ pub enum Reply {
 
 /// The status of the reply's canonical status line.
 pub fn status_of(reply: &Reply) -> u16
-    ensures { result ≡ status_number reply.now }
+    ensures { result ≡ http_status reply.now }
 {
     match reply {
         Reply::Found { .. } | Reply::Done => 200,

@@ -44,7 +44,7 @@ fn push_since(head: &mut ReplyHead, since: Option<u64>)
     }
 }
 
-/// Adds the line that tells the first reader of an uninitialised item.
+/// Adds the line that tells the first reader of an uninitialized item.
 fn push_first(head: &mut ReplyHead, first: bool)
     requires { length head.old + 16 ≤ 256 }
     ensures text { head.new ≡ head.old ++ first_line first }

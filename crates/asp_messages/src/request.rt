@@ -43,7 +43,7 @@ pub enum Ask {
         body: Bytes,
         /// How long the item lives untouched, 1 to 525,600 minutes.
         minutes: u64,
-        /// Whether the item is made uninitialised, to be told so to its first reader.
+        /// Whether the item is made uninitialized, to be told so to its first reader.
         fresh: bool,
         /// The cookie of the lock under which the content was read, where there is one.
         cookie: Option<u64>,

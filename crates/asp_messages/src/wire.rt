@@ -8,11 +8,11 @@ ghost use Rattle.asp_messages.specs.declared.reply.Reply.{Reply};
 ghost use Rattle.asp_messages.specs.Fields.{most_body, response_fields};
 ghost use Rattle.asp_messages.specs.Head.{most_head, IsReplyHead};
 ghost use Rattle.asp_messages.specs.Ranges.{RequestFits, ReplyFits};
-ghost use Rattle.asp_messages.specs.ReplySpelling.{Answer, reply, SpellsReply};
+ghost use Rattle.asp_messages.specs.ReplySpelling.{StreamAnswer, reply, SpellsReply};
 ghost use Rattle.asp_messages.specs.ReplyText.{reply_text};
 ghost use Rattle.asp_messages.specs.RequestSpelling.{SpellsRequest};
 ghost use Rattle.asp_messages.specs.RequestText.{request_text};
-ghost use Rattle.asp_messages.specs.Stream.{IsStream, IsWaiting};
+ghost use Rattle.asp_messages.specs.Stream.{IsMessageStream, IsWaiting};
 
 /// The canonical text of a request in range, whose key is bytes, is a spelling of that request, and
 /// bytes that begin with it begin with no other message.
@@ -28,15 +28,16 @@ pub fn request_round_trip()
 /// begin with no other message.
 pub fn reply_round_trip()
     ensures spelled { (r : Reply) → ReplyFits r → SpellsReply (reply_text r) (reply r) }
-    ensures first { (r : Reply) (more front back : List ℕ) (a : Answer) → ReplyFits r
+    ensures first { (r : Reply) (more front back : List ℕ) (a : StreamAnswer) → ReplyFits r
         → reply_text r ++ more ≡ front ++ back → SpellsReply front a
         → (a ≡ reply r) × (back ≡ more) }
 {}
 
 /// A byte list is one stream of replies: it has one list of messages and one rest.
 pub fn one_reply_stream()
-    ensures { (bytes : List ℕ) (answers others : List Answer) (rest other : List ℕ)
-        → IsStream SpellsReply bytes answers rest → IsStream SpellsReply bytes others other
+    ensures { (bytes : List ℕ) (answers others : List StreamAnswer) (rest other : List ℕ)
+        → IsMessageStream SpellsReply bytes answers rest
+        → IsMessageStream SpellsReply bytes others other
         → (answers ≡ others) × (rest ≡ other) }
 {}
 

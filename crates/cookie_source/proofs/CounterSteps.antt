@@ -8,7 +8,7 @@ use lib.Seq.{set-get_or}
 use prog.Atomic.{either}
 use Rattle.atomic_table.specs.Table.{State, Step, step, Act, keeps, stepped, opening, Allows, Splits}
 use Rattle.atomic_table.proofs.Lists.{at_set, at_snoc, set_again, exchanged}
-use Rattle.cookie_source.specs.declared.rule.DrawerView.{DrawerView}
+use Rattle.cookie_source.specs.declared.counter_rule.DrawerView.{DrawerView}
 use Rattle.cookie_source.specs.Counter.{drawer_view, new_drawer, nothing_drawn, total, total_below, IsDrawer, IsCounted, DrawerSeat, Looks, Draws}
 
 abbrev CounterState : Type 0

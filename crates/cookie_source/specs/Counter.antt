@@ -4,10 +4,11 @@ use Rattle.std.specs.Prelude.{◌≡◌, ◌≢◌, ℕ, zero, suc, ◌+◌, ◌
 use mathlib.Core.Option.{some}
 use lib.ListN.{get_elem?}
 use Rattle.atomic_table.specs.Table.{State, Me, Step}
-use Rattle.cookie_source.specs.declared.rule.DrawerView.{DrawerView}
+use Rattle.cookie_source.specs.declared.counter_rule.DrawerView.{DrawerView}
 
 abbrev pub drawer_view : ℕ → List ℕ → ℕ → DrawerView
-drawer_view first_cookie drawn seen = record { first_cookie = first_cookie; drawn = drawn; seen = seen }
+drawer_view first_cookie drawn seen =
+    record { first_cookie = first_cookie; drawn = drawn; seen = seen }
 
 -- a drawer that drew nothing, at a counter that stands at its first cookie
 abbrev pub new_drawer : ℕ → DrawerView
@@ -67,4 +68,5 @@ pub record Draws (st : Step (Unit {0})) (before : DrawerSeat) (word : ℕ) (afte
         word,
     before.1,
   )
-  pub missed : word ≢ st.first → after ≡ (drawer_view before.0.first_cookie before.0.drawn word, before.1)
+  pub missed : word ≢ st.first → after
+      ≡ (drawer_view before.0.first_cookie before.0.drawn word, before.1)

@@ -8,7 +8,8 @@ pub record Counter : Type 0 where
 
 -- what the draw after j draws gives: the first cookie plus j, and nothing past the last
 abbrev pub nth_cookie : ℕ → ℕ → ℕ → Option ℕ
-nth_cookie first_cookie last j = if nat_le (first_cookie + j) last then Some (first_cookie + j) else None
+nth_cookie first_cookie last j =
+    if nat_le (first_cookie + j) last then Some (first_cookie + j) else None
 
 -- the next cookie after j draws
 abbrev pub counter_after : ℕ → ℕ → ℕ → ℕ

@@ -2,10 +2,10 @@
 //! one thread or by many.
 #![tactic(auto)]
 
-mod plain;
-mod rule;
+mod counter_rule;
+mod plain_cookies;
 mod source;
 
-pub use plain::PlainCookies;
-pub use rule::DrawerView;
+pub use counter_rule::DrawerView;
+pub use plain_cookies::PlainCookies;
 pub use source::{CookieSource, Drawer, FreshCookies};

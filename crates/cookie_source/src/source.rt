@@ -2,7 +2,7 @@
 ghost use Rattle.std.specs.Prelude.{◌≡◌, ◌<◌, ◌≤◌, ◌^◌, [], All, length, IfOk};
 ghost use Rattle.cookie_source.specs.Counter.{new_drawer};
 
-use crate::rule::{CounterRule, Draw, DrawerView, Look, MakeDrawer};
+use crate::counter_rule::{CounterLook, CounterRule, Draw, DrawerView, MakeDrawer};
 use asp_base::NoMemory;
 use atomic_table::{Seat, Table};
 use std::alloc::Global;
@@ -113,7 +113,7 @@ impl CookieSource {
         ensures never_falls { word_seen drawer.old ≤ word_seen drawer.new }
     {
         let shared = &self.table.shared;
-        let mut found = shared.load::<Look>(&mut drawer.seat, COUNTER);
+        let mut found = shared.load::<CounterLook>(&mut drawer.seat, COUNTER);
         for _ in found..self.last + 1 {
             if found > self.last {
                 return None;

@@ -11,20 +11,20 @@ use Rattle.journal_text.specs.declared.judging.judgement.Judgement.TheVariants.{
 use Rattle.journal_text.specs.JudgingChecker.{Checked, HasTaken}
 use Rattle.journal_text.specs.WritingText.{IsJournal}
 use Rattle.journal_text.specs.JudgingEntries.{Judges}
-use Rattle.journal_text.specs.ReadingText.{Reading, Taken, IsJournalOf, StopsAt, HasRead}
+use Rattle.journal_text.specs.ReadingText.{JournalReading, Taken, IsJournalOf, StopsAt, HasRead}
 use Rattle.journal_text.specs.JudgingLine.{judgement_line}
 use Rattle.journal_text.proofs.JournalLemmas.{journal_one, journal_stops}
 use Rattle.journal_replay.proofs.LineLemmas.{lines_of}
-use Rattle.journal_replay.specs.declared.replay_verdict.Verdict.{Verdict}
-use Rattle.journal_replay.specs.declared.replay_verdict.Verdict.TheVariants as verdicts
+use Rattle.journal_replay.specs.declared.replay_verdict.ReplayVerdict.{ReplayVerdict}
+use Rattle.journal_replay.specs.declared.replay_verdict.ReplayVerdict.TheVariants as verdicts
 use Rattle.journal_replay.specs.declared.replayer.Replayer.{Replayer}
-use Rattle.journal_replay.specs.Progress.{Breaks, Checks, Finds, Gave, HasReplayed, Lacks, Waits, Went, verdict_of}
-use Rattle.journal_replay.specs.Replay.{End, EndsAs, GivesLocks, IsOwedLine, IsJudged, IsReplay, IsStatusOf, TellsJournal, TellsNoJournal, status_number, verdict_number}
-use Rattle.stream_run.specs.declared.consumer.Consumer.{Ghosts}
-use Rattle.stream_run.specs.declared.ending.End.TheVariants as ends
-use Rattle.stream_run.specs.Ending.{Ended, IsOver, IfFewer, IsComplete}
-use Rattle.stream_run.specs.Feeding.{OverAtEnd}
-use Rattle.stream_run.specs.Flow.{Flow, flow}
+use Rattle.journal_replay.specs.ReplayProgress.{ReplayBreaks, Checks, Finds, ReplayGave, HasReplayed, ReplayLacks, ReplayWaits, ReplayWent, verdict_of}
+use Rattle.journal_replay.specs.Replay.{ReplayEnd, ReplayEndsAs, GivesLocks, IsOwedLine, IsJudged, IsReplay, IsStatusOf, TellsJournal, TellsNoJournal, status_of_replay, replay_verdict_status}
+use Rattle.command_loop.specs.declared.consumer.Consumer.{Ghosts}
+use Rattle.command_loop.specs.declared.ending.RunEnd.TheVariants as ends
+use Rattle.command_loop.specs.Ending.{Ended, ConsumerIsOver, IfFewer, RunIsComplete}
+use Rattle.command_loop.specs.Feeding.{OverAtEnd}
+use Rattle.command_loop.specs.Flow.{Flow, flow}
 
 -- ---- what is found at the end of the input
 
@@ -56,7 +56,8 @@ judged_of bytes checker judgement (Some t) journal checks judges =
     )
 
 -- what the judgement finds, with its line
-pub finds_judged : (judgement : Judgement) (verdict : Verdict) (bytes : List ℕ) (reader : Reading)
+pub finds_judged : (judgement : Judgement) (verdict : ReplayVerdict) (bytes : List ℕ)
+    (reader : JournalReading)
     (checker : Checked) (line : List ℕ)
     → ((text : List ℕ) (taken : Taken) → HasRead text taken reader → IsJournalOf text taken)
     → ((list : List Entry) → HasTaken checker list
@@ -77,12 +78,12 @@ finds_judged judgement verdict bytes reader checker line journal judges is line_
 
 -- ---- a run of the consumer is a replay
 
-abbrev pub ghosts : Ghosts Replayer Verdict
+abbrev pub ghosts : Ghosts Replayer ReplayVerdict
 ghosts = record {
-  went = Went;
-  waits = λ more now. Waits now.reader;
-  gave = Gave;
-  lacks = Lacks;
+  went = ReplayWent;
+  waits = λ more now. ReplayWaits now.reader;
+  gave = ReplayGave;
+  lacks = ReplayLacks;
   work = λ now. length now.reader.held;
   parts = λ now. (now.line.items, []);
 }
@@ -96,8 +97,8 @@ nothing_taken (Some old) (Some new) takes = ap Some (takes ∙ append-nil old)
 module _ (most : ℕ) (first now : Replayer) (source' : Option (List ℕ
     × List ℕ)) (sink sink' : Option (List ℕ)) (bytes : List ℕ) where
   -- what a replay is over with is owed, and nothing was written before it
-  owed_of : (verdict : Verdict) (whole last : List ℕ)
-      → IsOver ghosts most first now source' bytes verdict whole last → (whole ≡ [])
+  owed_of : (verdict : ReplayVerdict) (whole last : List ℕ)
+      → ConsumerIsOver ghosts most first now source' bytes verdict whole last → (whole ≡ [])
       × IsOwedLine verdict source' bytes most last
   owed_of verdicts.Legal whole last (inl (closes, end, some)) = (closes.0, ((end, some), closes.1))
   owed_of verdicts.Illegal whole last (inl (closes, end, some)) =
@@ -124,8 +125,9 @@ module _ (most : ℕ) (first now : Replayer) (source' : Option (List ℕ
 module _ (most : ℕ) (first now : Replayer) (source source' : Option (List ℕ × List ℕ))
     (sink sink' : Option (List ℕ))
   where
-    ends_of : (end : End) (run : Ended ghosts most first now (flow source source' sink sink') end)
-        → EndsAs end source' sink sink' run.taken most
+    ends_of : (end : ReplayEnd)
+        (run : Ended ghosts most first now (flow source source' sink sink') end)
+        → ReplayEndsAs end source' sink sink' run.taken most
     ends_of (ends.Over verdict) run =
         let (whole, last, over, wrote) = run.ends in
         let owed = owed_of most first now source' sink sink' run.taken verdict whole last over in (
@@ -144,11 +146,11 @@ module _ (most : ℕ) (first now : Replayer) (source source' : Option (List ℕ 
         in_part run.ends.0 run.ends.1 run.ends.2 run.ends.3 run.ends.4 run.ends.5 run.ends.6
       where
         in_part : (whole last : List ℕ) (n : ℕ)
-            → ((verdict : Verdict)
-            × IsOver ghosts most first now source' run.taken verdict whole last)
+            → ((verdict : ReplayVerdict)
+            × ConsumerIsOver ghosts most first now source' run.taken verdict whole last)
             ⊎ (last ≡ [])
             → 0 < length last → n ≤ length last → Takes sink sink' (whole ++ take n last)
-            → EndsAs ends.WriteFault source' sink sink' run.taken most
+            → ReplayEndsAs ends.WriteFault source' sink sink' run.taken most
         in_part whole last n (inl (found, over)) some le wrote =
             let owed = owed_of most first now source' sink sink' run.taken found whole last
             over in (
@@ -169,7 +171,8 @@ module _ (most : ℕ) (first now : Replayer) (source source' : Option (List ℕ 
           none_taken most first now source' sink sink' run.taken owed went.1 wrote,
         )
 
-    pub replay_of : (end : End) → Ended ghosts most first now (flow source source' sink sink') end
+    pub replay_of : (end : ReplayEnd)
+        → Ended ghosts most first now (flow source source' sink sink') end
         → IsReplay most source source' sink sink' end
     replay_of end run = record {
       bytes = run.taken;
@@ -182,10 +185,10 @@ module _ (most : ℕ) (first now : Replayer) (source source' : Option (List ℕ 
 
 module _ (first now : Replayer) (input : List ℕ) where
   -- what is found is found of the whole input
-  found_of : (verdict : Verdict) (whole last : List ℕ)
-      → Gave (OverAtEnd verdict) first now input whole last
+  found_of : (verdict : ReplayVerdict) (whole last : List ℕ)
+      → ReplayGave (OverAtEnd verdict) first now input whole last
       ⊎ ((front : List ℕ) × (behind : List ℕ) × (more : Bool) × (input ≡ front ++ behind)
-      × Breaks verdict front whole last)
+      × ReplayBreaks verdict front whole last)
       → (line : List ℕ) × Finds verdict input line
   found_of verdict whole last (inl closes) = (last, closes.1)
   found_of verdicts.NotAJournal whole last (inr (front, behind, more, is, breaks)) = (
@@ -210,9 +213,9 @@ module _ (input : List ℕ) where
       (subst (λ p. Judges judged.profile p list judgement) one.1
       (subst (λ l. Judges judged.profile judged.place l judgement) one.2 judged.judges))
 
-  status_judged : (verdict : Verdict) (line : List ℕ) → Finds verdict input line
+  status_judged : (verdict : ReplayVerdict) (line : List ℕ) → Finds verdict input line
       → (profile : Profile) (place : ℕ) (list : List Entry) → IsJournal input profile place list
-      → IsStatusOf (verdict_number verdict) profile place list
+      → IsStatusOf (replay_verdict_status verdict) profile place list
   status_judged verdicts.Legal line (entries, judged, is) profile place list journal =
       inl (Legal entries, judges_of (Legal entries) judged profile place list journal, refl)
   status_judged verdicts.Illegal line (at, why, judged, is) profile place list journal =
@@ -220,10 +223,10 @@ module _ (input : List ℕ) where
   status_judged verdicts.NotAJournal line (offset, stops, is) profile place list journal =
       absurd (journal_stops input profile place offset list journal stops)
 
-  status_refused : (verdict : Verdict) (line : List ℕ) → Finds verdict input line
+  status_refused : (verdict : ReplayVerdict) (line : List ℕ) → Finds verdict input line
       → ((profile : Profile) (place : ℕ) (list : List Entry) → IsJournal input profile place list
       → ⊥)
-      → (verdict_number verdict ≡ 3) ⊎ (verdict_number verdict ≡ 6)
+      → (replay_verdict_status verdict ≡ 3) ⊎ (replay_verdict_status verdict ≡ 6)
   status_refused verdicts.Legal line (entries, judged, is) none =
       absurd (none judged.profile judged.place judged.list judged.journal)
   status_refused verdicts.Illegal line (at, why, judged, is) none =
@@ -231,10 +234,10 @@ module _ (input : List ℕ) where
   status_refused verdicts.NotAJournal line found none = inl refl
 
 module _ (most : ℕ) (first now : Replayer) (f : Flow) where
-  pub judged-complete : (told : Option (List ℕ × List ℕ)) (end : End)
-      → IfFewer told most (IsComplete ghosts first now f end)
+  pub judged-complete : (told : Option (List ℕ × List ℕ)) (end : ReplayEnd)
+      → IfFewer told most (RunIsComplete ghosts first now f end)
       → (profile : Profile) (place : ℕ) (list : List Entry)
-      → TellsJournal told most profile place list → IsStatusOf (status_number end) profile place
+      → TellsJournal told most profile place list → IsStatusOf (status_of_replay end) profile place
       list
   judged-complete None end complete profile place list tells = absurd tells
   judged-complete (Some told) (ends.Over verdict) complete profile place list tells =
@@ -249,9 +252,9 @@ module _ (most : ℕ) (first now : Replayer) (f : Flow) where
   judged-complete (Some told) ends.Long complete profile place list tells =
       absurd (complete tells.0)
 
-  pub refused-complete : (told : Option (List ℕ × List ℕ)) (end : End)
-      → IfFewer told most (IsComplete ghosts first now f end)
-      → TellsNoJournal told most → (status_number end ≡ 3) ⊎ (status_number end ≡ 6)
+  pub refused-complete : (told : Option (List ℕ × List ℕ)) (end : ReplayEnd)
+      → IfFewer told most (RunIsComplete ghosts first now f end)
+      → TellsNoJournal told most → (status_of_replay end ≡ 3) ⊎ (status_of_replay end ≡ 6)
   refused-complete None end complete tells = absurd tells
   refused-complete (Some told) (ends.Over verdict) complete tells =
       let (whole, last, over, wrote) = complete tells.0 in

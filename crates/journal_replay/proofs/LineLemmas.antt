@@ -7,12 +7,12 @@ use Rattle.session_machine.specs.declared.entry.Entry.{Entry}
 use Rattle.session_machine.specs.declared.profile.Profile.{Profile}
 use Rattle.journal_text.specs.declared.reading.journal_reader.JournalNext.TheVariants as nexts
 use Rattle.journal_text.specs.JudgingChecker.{Checked, HasTaken}
-use Rattle.journal_text.specs.WritingText.{entry_words, entry_line, head_line, line, most_line}
+use Rattle.journal_text.specs.WritingText.{entry_words, entry_line, head_line, line, most_journal_line}
 use Rattle.journal_text.specs.ReadingAnswers.{taken_with}
-use Rattle.journal_text.specs.ReadingText.{IsNoLine, Taken, begun_by, taken_text, StopsAt, Reading, broken, HasRead}
+use Rattle.journal_text.specs.ReadingText.{IsNoLine, Taken, begun_by, taken_text, StopsAt, JournalReading, broken, HasRead}
 use Rattle.journal_text.proofs.ReadingLemmas.{no_line_more}
-use Rattle.journal_replay.specs.Progress.{Checks, HasReplayed, Waits}
-use Rattle.journal_replay.specs.Replay.{AreLines}
+use Rattle.journal_replay.specs.ReplayProgress.{Checks, HasReplayed, ReplayWaits}
+use Rattle.journal_replay.specs.Replay.{AreJournalLines}
 
 -- ---- what a reader holds
 
@@ -24,14 +24,15 @@ of_broken : (is_broken : Bool) (A B : Type 0) → is_broken ≡ true → MatchBo
 of_broken true A B e h = h
 of_broken false A B e h = cc
 
-rest_held : (text : List ℕ) (taken : Taken) (r : Reading) (has : HasRead text taken r)
+rest_held : (text : List ℕ) (taken : Taken) (r : JournalReading) (has : HasRead text taken r)
     → r.is_broken ≡ false → has.rest ≡ r.held
 rest_held text taken r has whole =
     of_whole r.is_broken (IsNoLine r.begun has.rest) (has.rest ≡ r.held) whole has.holds
 
 -- what is held behind the lines is the front of one more
-pub lines_of : (bytes : List ℕ) (r : Reading) (checker : Checked) → HasReplayed bytes r checker
-    → Waits r → AreLines bytes
+pub lines_of : (bytes : List ℕ) (r : JournalReading) (checker : Checked)
+    → HasReplayed bytes r checker
+    → ReplayWaits r → AreJournalLines bytes
 lines_of bytes r checker has waits =
     let held = rest_held bytes has.taken r has.read waits.whole in
     record {
@@ -40,11 +41,11 @@ lines_of bytes r checker has waits =
       fits = has.read.fits;
       bytes_are = has.read.text_is;
       unfinished = subst (HasNo 10) (sym held) waits.unfinished;
-      short = subst (λ t. length t ≤ most_line) (sym held) waits.short;
+      short = subst (λ t. length t ≤ most_journal_line) (sym held) waits.short;
     }
 
 -- a broken reader stands where the text stops, whatever follows it
-stops_whatever : (text more : List ℕ) (taken : Taken) (r : Reading) → HasRead text taken r
+stops_whatever : (text more : List ℕ) (taken : Taken) (r : JournalReading) → HasRead text taken r
     → r.is_broken ≡ true → StopsAt (text ++ more) r.offset
 stops_whatever text more taken r has wrong = record {
   taken = taken;
@@ -69,7 +70,7 @@ entries_short profile (e ∷ es) =
     let one = length-append (entry_words profile e) (codes "\n") in
     omega (arith, rest, parts, one)
 
-taken_short : (text : List ℕ) (taken : Taken) (r : Reading) (checker : Checked)
+taken_short : (text : List ℕ) (taken : Taken) (r : JournalReading) (checker : Checked)
     (profile : Profile) → HasRead text taken r → r.begun ≡ Some profile → Checks taken checker
     → checker.taken ≤ length text
 taken_short text None r checker profile has begun checks = let none = has.begun in cc
@@ -81,7 +82,7 @@ taken_short text (Some t) r checker profile has begun checks =
     let count = checks.2.taken in
     omega (arith, all, parts, lines, few, count)
 
-pub few_taken : (text : List ℕ) (r : Reading) (checker : Checked) (profile : Profile)
+pub few_taken : (text : List ℕ) (r : JournalReading) (checker : Checked) (profile : Profile)
     → HasReplayed text r checker → length text + 0 ≤ 2 ^ 40 → r.begun ≡ Some profile
     → checker.taken < 2 ^ 63 - 1
 few_taken text r checker profile has short begun =
@@ -91,7 +92,8 @@ few_taken text r checker profile has short begun =
 -- ---- one line
 
 -- the first line was taken
-pub head_at : (text : List ℕ) (profile : Profile) (place : ℕ) (old new : Reading) (checker checker'
+pub head_at : (text : List ℕ) (profile : Profile) (place : ℕ) (old new : JournalReading)
+    (checker checker'
     : Checked)
     → old.begun ≡ None → HasReplayed text old checker
     → ((taken : Taken) → HasRead text taken old
@@ -112,7 +114,7 @@ head_at text profile place old new checker checker' begun has reads whole in_pro
     at (Some t) read = let some = read.begun in cc
 
 -- the line of an entry was taken
-pub entry_at : (text : List ℕ) (e : Entry) (old new : Reading) (checker checker' : Checked)
+pub entry_at : (text : List ℕ) (e : Entry) (old new : JournalReading) (checker checker' : Checked)
     (profile : Profile) → old.begun ≡ Some profile → HasReplayed text old checker
     → ((taken : Taken) → HasRead text taken old
     → HasRead text (taken_with (nexts.Entry e) taken) new) → new.is_broken ≡ false
@@ -134,14 +136,14 @@ entry_at text e old new checker checker' profile begun has reads whole in_profil
     }
 
 -- the next line is none
-pub stops_none : (text : List ℕ) (old new : Reading) (checker : Checked) (offset : ℕ)
+pub stops_none : (text : List ℕ) (old new : JournalReading) (checker : Checked) (offset : ℕ)
     → new ≡ broken old → offset ≡ old.offset
     → ((taken : Taken) → HasRead text taken old → HasRead text taken new)
     → HasReplayed text old checker → (more : List ℕ) → StopsAt (text ++ more) offset
 stops_none text old new checker offset is at reads has more =
-    subst (StopsAt (text ++ more)) (ap (λ (r : Reading). r.offset) is ∙ sym at)
+    subst (StopsAt (text ++ more)) (ap (λ (r : JournalReading). r.offset) is ∙ sym at)
     (stops_whatever text more has.taken new (reads has.taken has.read)
-    (ap (λ (r : Reading). r.is_broken) is))
+    (ap (λ (r : JournalReading). r.is_broken) is))
 
 -- nothing is owed still
 pub none_last : (line : List ℕ) → line ≡ [] → line ++ [] ≡ []

@@ -11,15 +11,15 @@ use Rattle.lock_laws.specs.Laws.{LocksHoldIn}
 use Rattle.journal_text.specs.declared.judging.judgement.Judgement.{Judgement}
 use Rattle.journal_text.specs.declared.judging.judgement.Judgement.TheVariants.{Legal, Illegal}
 use Rattle.journal_text.specs.declared.judging.judgement.Why.{Why}
-use Rattle.journal_text.specs.WritingText.{IsJournal, most_line}
+use Rattle.journal_text.specs.WritingText.{IsJournal, most_journal_line}
 use Rattle.journal_text.specs.JudgingEntries.{Judges}
 use Rattle.journal_text.specs.ReadingText.{Taken, TakenFits, StopsAt, taken_text}
 use Rattle.journal_text.specs.JudgingLine.{judgement_line}
-use Rattle.journal_replay.specs.declared.replay_verdict.Verdict.{Verdict}
-use Rattle.journal_replay.specs.declared.replay_verdict.Verdict.TheVariants as verdicts
-use Rattle.stream_run.specs.declared.ending.End as run
-use Rattle.stream_run.specs.declared.ending.End.TheVariants as ends
-use Rattle.stream_run.specs.Status.{status_number as status_with}
+use Rattle.journal_replay.specs.declared.replay_verdict.ReplayVerdict.{ReplayVerdict}
+use Rattle.journal_replay.specs.declared.replay_verdict.ReplayVerdict.TheVariants as verdicts
+use Rattle.command_loop.specs.declared.ending.RunEnd as run
+use Rattle.command_loop.specs.declared.ending.RunEnd.TheVariants as ends
+use Rattle.command_loop.specs.Status.{status_of_run as status_with}
 
 -- ---- what the bytes are
 
@@ -50,26 +50,26 @@ InputStopsAt source' bytes most offset =
     ⊎ ((more : List ℕ) → StopsAt (bytes ++ more) offset)
 
 -- The bytes are whole lines of a journal, and the front of one more line.
-pub record AreLines (bytes : List ℕ) : Type 0 where
+pub record AreJournalLines (bytes : List ℕ) : Type 0 where
   pub taken : Taken
   pub rest : List ℕ
   pub fits : TakenFits taken
   pub bytes_are : bytes ≡ taken_text taken ++ rest
   pub unfinished : HasNo 10 rest
-  pub short : length rest ≤ most_line
+  pub short : length rest ≤ most_journal_line
 
 -- ---- endings
 
 -- how a replay ends
-abbrev pub End : Type 0
-End = run.End Verdict
+abbrev pub ReplayEnd : Type 0
+ReplayEnd = run.RunEnd ReplayVerdict
 
 -- the line that tells at which offset a text is no journal, with its line feed
 unfoldable pub stop_line : ℕ → List ℕ
 stop_line offset = (codes "not a journal at" then decimal offset) ++ codes "\n"
 
 -- the line that is owed where this was found
-abbrev pub IsOwedLine : Verdict → Option (List ℕ × List ℕ) → List ℕ → ℕ → List ℕ → Type 0
+abbrev pub IsOwedLine : ReplayVerdict → Option (List ℕ × List ℕ) → List ℕ → ℕ → List ℕ → Type 0
 IsOwedLine verdicts.Legal source' bytes most line =
     IsAll source' bytes most
     × ((entries : ℕ) × (judged : IsJudged bytes (Legal entries))
@@ -83,36 +83,37 @@ IsOwedLine verdicts.NotAJournal source' bytes most line =
 
 -- What holds at each ending: of the source and the sink after it, and of the bytes taken, which are
 -- at most this many.
-abbrev pub EndsAs : End → Option (List ℕ × List ℕ) → Option (List ℕ) → Option (List ℕ) → List ℕ → ℕ
+abbrev pub ReplayEndsAs : ReplayEnd → Option (List ℕ × List ℕ) → Option (List ℕ) → Option (List ℕ)
+    → List ℕ → ℕ
     → Type 0
-EndsAs (ends.Over verdict) source' sink sink' bytes most =
+ReplayEndsAs (ends.Over verdict) source' sink sink' bytes most =
     (line : List ℕ) × IsOwedLine verdict source' bytes most line × Takes sink sink' line
-EndsAs ends.ReadFault source' sink sink' bytes most =
-    AreLines bytes × (length bytes < most) × (sink' ≡ sink)
-EndsAs ends.WriteFault source' sink sink' bytes most =
-    (verdict : Verdict) × (line : List ℕ) × IsOwedLine verdict source' bytes most line
+ReplayEndsAs ends.ReadFault source' sink sink' bytes most =
+    AreJournalLines bytes × (length bytes < most) × (sink' ≡ sink)
+ReplayEndsAs ends.WriteFault source' sink sink' bytes most =
+    (verdict : ReplayVerdict) × (line : List ℕ) × IsOwedLine verdict source' bytes most line
     × TakesFront sink sink' line
-EndsAs ends.NoMemory source' sink sink' bytes most = sink' ≡ sink
-EndsAs ends.Long source' sink sink' bytes most =
-    AreLines bytes × (length bytes ≡ most) × (sink' ≡ sink)
+ReplayEndsAs ends.NoMemory source' sink sink' bytes most = sink' ≡ sink
+ReplayEndsAs ends.Long source' sink sink' bytes most =
+    AreJournalLines bytes × (length bytes ≡ most) × (sink' ≡ sink)
 
 -- the exit status of what was found
-abbrev pub verdict_number : Verdict → ℕ
-verdict_number verdicts.Legal = 0
-verdict_number verdicts.NotAJournal = 3
-verdict_number verdicts.Illegal = 8
+abbrev pub replay_verdict_status : ReplayVerdict → ℕ
+replay_verdict_status verdicts.Legal = 0
+replay_verdict_status verdicts.NotAJournal = 3
+replay_verdict_status verdicts.Illegal = 8
 
 -- the exit status of an ending: 4 to 7 where it was stopped
-abbrev pub status_number : End → ℕ
-status_number end = status_with verdict_number end
+abbrev pub status_of_replay : ReplayEnd → ℕ
+status_of_replay end = status_with replay_verdict_status end
 
 -- A replay: these bytes were taken, and it ended so.
 pub record IsReplay (most : ℕ) (source source' : Option (List ℕ × List ℕ))
-    (sink sink' : Option (List ℕ)) (end : End) : Type 0 where
+    (sink sink' : Option (List ℕ)) (end : ReplayEnd) : Type 0 where
   pub bytes : List ℕ
   pub given : Gives source source' bytes
   pub within : length bytes ≤ most
-  pub ends : EndsAs end source' sink sink' bytes most
+  pub ends : ReplayEndsAs end source' sink sink' bytes most
 
 -- ---- completeness
 

@@ -6,4 +6,4 @@ mod replay_verdict;
 mod replayer;
 
 pub use replay::run_replay;
-pub use replay_verdict::{End, Verdict};
+pub use replay_verdict::{ReplayEnd, ReplayVerdict};

@@ -4,12 +4,12 @@ ghost use Rattle.asp_base.specs.Causes.{Rose};
 ghost use Rattle.asp_base.specs.Limits.{most_input};
 ghost use Rattle.session_machine.specs.declared.profile.Profile.{Profile};
 ghost use Rattle.session_machine.specs.declared.entry.Entry.{Entry};
-ghost use Rattle.journal_replay.specs.Replay.{End, IsReplay, IsStatusOf, TellsJournal, TellsNoJournal, status_number};
+ghost use Rattle.journal_replay.specs.Replay.{ReplayEnd, IsReplay, IsStatusOf, TellsJournal, TellsNoJournal, status_of_replay};
 
 use crate::replayer::Replayer;
 use asp_base::{Sink, Source};
+use command_loop::run;
 use std::alloc::Global;
-use stream_run::run;
 
 /// Reads the journal on the source, judges its entries, and writes one line that tells the
 /// judgement, or at which offset the input is no journal. It holds a line of the journal at a time,
@@ -24,7 +24,7 @@ pub fn run_replay<S: Source, T: Sink>(alloc: Global, most: u64, source: &mut S, 
     requires most { most ≤ most_input }
 
     // There is one ending, whose number is the status, and one replay that ended so.
-    ensures replay { (end : End) × (result ≡ status_number end)
+    ensures replay { (end : ReplayEnd) × (result ≡ status_of_replay end)
         × IsReplay most (S.told source.old) (S.told source.new)
         (T.taken sink.old) (T.taken sink.new) end }
     ensures read { result ≡ 4 → Rose (S.faults source.old) (S.faults source.new) }

@@ -1,11 +1,11 @@
 //! What a replay finds.
 
 use asp_base::status;
-use stream_run::Status;
+use command_loop::Status;
 
 /// What a replay finds.
 #[derive(Clone, Copy, Debug, PartialEq, Eq, Drop)]
-pub enum Verdict {
+pub enum ReplayVerdict {
     /// The input is a journal, and its entries are a legal history.
     Legal,
     /// The input is a journal, and its entries are no legal history.
@@ -15,18 +15,18 @@ pub enum Verdict {
 }
 
 /// How a replay ends.
-pub type End = stream_run::End<Verdict>;
+pub type ReplayEnd = command_loop::RunEnd<ReplayVerdict>;
 
-impl Status for Verdict {
-    ghost use Rattle.journal_replay.specs.Replay.{verdict_number};
+impl Status for ReplayVerdict {
+    ghost use Rattle.journal_replay.specs.Replay.{replay_verdict_status};
 
-    ghost number = { verdict_number };
+    ghost number = { replay_verdict_status };
 
     fn number(&self) -> u8 {
         match self {
-            Verdict::Legal => status::DONE,
-            Verdict::NotAJournal => status::NOT_WHOLE,
-            Verdict::Illegal => status::ILLEGAL,
+            ReplayVerdict::Legal => status::DONE,
+            ReplayVerdict::NotAJournal => status::NOT_WHOLE,
+            ReplayVerdict::Illegal => status::ILLEGAL,
         }
     }
 }

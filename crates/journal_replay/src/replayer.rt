@@ -1,15 +1,15 @@
 //! A journal that is read and judged, line by line.
 ghost use Rattle.std.specs.Prelude.{◌≡◌, ◌++◌, [], OnOk};
-ghost use Rattle.journal_replay.specs.Progress.{Went, verdict_of};
+ghost use Rattle.journal_replay.specs.ReplayProgress.{ReplayWent, verdict_of};
 ghost use Rattle.journal_replay.specs.Replay.{stop_line};
 
-use crate::Verdict;
+use crate::ReplayVerdict;
 use asp_base::NoMemory;
+use command_loop::{Consumer, Stepped};
 use itoa::Buffer;
 use journal_text::{Checker, JournalNext, JournalReader, Judgement, write_judgement};
 use session_machine::Profile;
 use std::alloc::Global;
-use stream_run::{Consumer, Step};
 
 /// A reader, and the checker of the entries that it read.
 #[derive(Debug, Drop)]
@@ -33,19 +33,19 @@ fn write_stop(out: &mut Vec<u8>, offset: u64) -> Result<(), NoMemory>
 }
 
 /// The verdict of a judgement.
-fn verdict_of(judgement: &Judgement) -> Verdict
+fn verdict_of(judgement: &Judgement) -> ReplayVerdict
     ensures { result ≡ verdict_of judgement.now }
 {
     match judgement {
-        Judgement::Legal { .. } => Verdict::Legal,
-        Judgement::Illegal { .. } => Verdict::Illegal,
+        Judgement::Legal { .. } => ReplayVerdict::Legal,
+        Judgement::Illegal { .. } => ReplayVerdict::Illegal,
     }
 }
 
 impl Replayer {
     /// Nothing was read. It takes no memory.
     pub fn new(alloc: Global) -> Replayer
-        ensures begun { Went result result [] [] }
+        ensures begun { ReplayWent result result [] [] }
     {
         Replayer {
             alloc,
@@ -58,17 +58,17 @@ impl Replayer {
 
 impl Consumer for Replayer {
     ghost use Rattle.std.specs.Prelude.{length, []};
-    ghost use Rattle.journal_replay.specs.Progress.{Went, Waits, Gave, Lacks};
+    ghost use Rattle.journal_replay.specs.ReplayProgress.{ReplayWent, ReplayWaits, ReplayGave, ReplayLacks};
 
-    type Over = Verdict;
+    type Over = ReplayVerdict;
 
-    ghost went = { Went };
+    ghost went = { ReplayWent };
 
-    ghost waits = { λ more now. Waits now.reader };
+    ghost waits = { λ more now. ReplayWaits now.reader };
 
-    ghost gave = { Gave };
+    ghost gave = { ReplayGave };
 
-    ghost lacks = { Lacks };
+    ghost lacks = { ReplayLacks };
 
     ghost work = { λ now. length now.reader.held };
 
@@ -78,26 +78,26 @@ impl Consumer for Replayer {
         self.reader.feed(piece)
     }
 
-    fn step(&mut self, _more: bool) -> Step<Verdict> {
+    fn step(&mut self, _more: bool) -> Stepped<ReplayVerdict> {
         match self.reader.next() {
             JournalNext::Head { profile, place } => {
                 self.checker = Checker::new(self.alloc, profile, place);
-                Step::Did
+                Stepped::Did
             }
             JournalNext::Entry(entry) => match self.checker.take(entry) {
-                Ok(()) => Step::Did,
-                Err(NoMemory) => Step::NoMemory,
+                Ok(()) => Stepped::Did,
+                Err(NoMemory) => Stepped::NoMemory,
             },
-            JournalNext::More => Step::More,
+            JournalNext::More => Stepped::More,
             JournalNext::NotAJournal { offset } => match write_stop(&mut self.line, offset) {
-                Ok(()) => Step::Over(Verdict::NotAJournal),
-                Err(NoMemory) => Step::NoMemory,
+                Ok(()) => Stepped::Over(ReplayVerdict::NotAJournal),
+                Err(NoMemory) => Stepped::NoMemory,
             },
-            JournalNext::NoMemory => Step::NoMemory,
+            JournalNext::NoMemory => Stepped::NoMemory,
         }
     }
 
-    fn finish(&mut self) -> Result<Verdict, NoMemory> {
+    fn finish(&mut self) -> Result<ReplayVerdict, NoMemory> {
         match self.reader.finish() {
             None => {
                 let judgement = self.checker.verdict();
@@ -106,7 +106,7 @@ impl Consumer for Replayer {
             }
             Some(offset) => {
                 write_stop(&mut self.line, offset)?;
-                Ok(Verdict::NotAJournal)
+                Ok(ReplayVerdict::NotAJournal)
             }
         }
     }

@@ -12,7 +12,7 @@ use Rattle.journal_text.specs.declared.reading.journal_reader.JournalNext.{Journ
 use Rattle.journal_text.specs.declared.reading.journal_reader.JournalNext.TheVariants as nexts
 use Rattle.journal_text.specs.WritingText.{head_words, entry_words, line, head_line, entry_line, journal_text, PlaceFits, EntryFits}
 use Rattle.journal_text.specs.ReadingAnswers.{taken_with, IfNotAJournal}
-use Rattle.journal_text.specs.ReadingText.{IsTooLong, IsNoLine, Taken, taken_text, StopsAt, Reading, fed, broken, HasRead}
+use Rattle.journal_text.specs.ReadingText.{IsTooLong, IsNoLine, Taken, taken_text, StopsAt, JournalReading, fed, broken, HasRead}
 use Rattle.journal_text.specs.ReadingWords.{IsEntry}
 use Rattle.journal_text.proofs.JournalLemmas.{line_then, line_short}
 
@@ -96,7 +96,7 @@ kept_whole : (is_broken : Bool) (held piece : List ℕ) → is_broken ≡ false
 kept_whole true held piece e = cc
 kept_whole false held piece e = refl
 
-pub feed_goes_on : (text piece : List ℕ) (taken : Taken) (r : Reading) → HasRead text taken r
+pub feed_goes_on : (text piece : List ℕ) (taken : Taken) (r : JournalReading) → HasRead text taken r
     → HasRead (text ++ piece) taken (fed r piece)
 feed_goes_on text piece taken r has = record {
   rest = has.rest ++ piece;
@@ -108,7 +108,8 @@ feed_goes_on text piece taken r has = record {
       (if r.is_broken then [] else r.held ++ piece) has.holds (kept_whole r.is_broken r.held piece);
 }
 
-pub on_ok_goes_on : {E : Type 0} (result : Result Unit E) (piece : List ℕ) (old new : Reading)
+pub on_ok_goes_on : {E : Type 0} (result : Result Unit E) (piece : List ℕ)
+    (old new : JournalReading)
     → OnOk result (new ≡ fed old piece)
     → OnOk result ((text : List ℕ) (taken : Taken) → HasRead text taken old
     → HasRead (text ++ piece) taken new)
@@ -121,7 +122,7 @@ on_ok_goes_on (Err x) piece old new e = tt
 some_one : (a b : Profile) → Some a ≡ Some b → a ≡ b
 some_one a b e = cc
 
-abbrev pub whole_reader : List ℕ → ℕ → Option Profile → Bool → Reading
+abbrev pub whole_reader : List ℕ → ℕ → Option Profile → Bool → JournalReading
 whole_reader held offset begun may_feed = record {
   held = held;
   offset = offset;
@@ -251,7 +252,7 @@ stops_there held offset begun may_feed wrong text taken has = record {
 
 -- ---- the calls, by what they found
 
-abbrev pub reader_with : List ℕ → ℕ → Option Profile → Bool → Bool → Reading
+abbrev pub reader_with : List ℕ → ℕ → Option Profile → Bool → Bool → JournalReading
 reader_with held offset begun is_broken may_feed =
     record {
       held = held;
@@ -263,18 +264,18 @@ reader_with held offset begun is_broken may_feed =
     }
 
 module _ (lines : List ℕ) (offset : ℕ) (begun : Option Profile) (is_broken may_feed : Bool) (self :
-    Reading)
+    JournalReading)
     (self_is : reader_with lines offset begun is_broken may_feed ≡ self)
     (whole : is_broken ≡ false)
   where
-    abbrev state : Option Profile → Bool → Reading
+    abbrev state : Option Profile → Bool → JournalReading
     state b k = reader_with lines offset b k may_feed
 
     was : (b : Option Profile) → begun ≡ b → state b false ≡ self
     was b same = ap (λ x. state x false) (sym same) ∙ ap (λ x. state begun x) (sym whole)
         ∙ self_is
 
-    module _ (after slice : List ℕ) (len : ℕ) (profile : Profile) (new : Reading)
+    module _ (after slice : List ℕ) (len : ℕ) (profile : Profile) (new : JournalReading)
         (same : after ≡ lines) (sliced : slice ≡ after)
         (line_at : (len < length lines) × SplitsAt 10 lines (take len lines) (drop (len + 1) lines))
         (new_is : new ≡ reader_with (drop (len + 1) after) (offset + (len + 1)) (Some profile)
@@ -330,7 +331,7 @@ module _ (lines : List ℕ) (offset : ℕ) (begun : Option Profile) (is_broken m
           ⊎ IsNoLine self.begun self.held)) (sym answer)
           (inr (subst (λ r. IsNoLine r.begun r.held) self_is wrong))
 
-      pub broken_reads : (new : Reading) → new ≡ broken (state begun is_broken)
+      pub broken_reads : (new : JournalReading) → new ≡ broken (state begun is_broken)
           → (text : List ℕ) (taken : Taken) → HasRead text taken self
           → HasRead text (taken_with result taken) new
       broken_reads new new_is text taken has =

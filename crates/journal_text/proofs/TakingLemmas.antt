@@ -6,7 +6,7 @@ use Rattle.session_machine.specs.History.{IsLegalIn, nothing}
 use Rattle.journal_text.specs.declared.judging.judgement.Judgement.{Judgement}
 use Rattle.journal_text.specs.declared.judging.judgement.Judgement.TheVariants.{Legal, Illegal}
 use Rattle.journal_text.specs.declared.judging.judgement.Why.{Why}
-use Rattle.journal_text.specs.JudgingChecker.{Checked, HasTaken, Known, Knows, KnowsWhileLegal}
+use Rattle.journal_text.specs.JudgingChecker.{Checked, HasTaken, Known, KnowsHistory, KnowsWhileLegal}
 use Rattle.journal_text.specs.JudgingEntries.{Judges}
 use Rattle.journal_text.proofs.JudgingLemmas.{illegal-stays}
 
@@ -36,7 +36,7 @@ legal-parts : (profile : Profile) (first : ℕ) (list : List Entry) (known : Kno
     Judgement)
     → ((place : ℕ) (why : Why) → verdict ≡ Illegal place why → ⊥)
     → Judges profile first list verdict → KnowsWhileLegal verdict known list
-    → IsLegalIn profile nothing 0 list × Knows known list
+    → IsLegalIn profile nothing 0 list × KnowsHistory known list
 legal-parts profile first list known (Legal entries) apart judges knows = (judges.0, knows)
 legal-parts profile first list known (Illegal place why) apart judges knows =
     absurd (apart place why refl)
@@ -45,7 +45,7 @@ legal-parts profile first list known (Illegal place why) apart judges knows =
 abbrev pub JudgesNext : ℕ → ℕ → Known → Known → Entry → Judgement → Type 0
 JudgesNext place taken old new e judgement = (first : ℕ) (before : List Entry)
     → place ≡ first + length before → taken ≡ length before → IsLegalIn old.profile nothing 0 before
-    → Knows old before
+    → KnowsHistory old before
     → Judges old.profile first (before ++ e ∷ []) judgement × KnowsWhileLegal judgement new (before
     ++ e ∷ [])
 

@@ -32,14 +32,14 @@ abbrev pub item_among : List (List ℕ × Item) → List ℕ → Option Item
 item_among pairs key = lookup (is_at (slice_cmp nat_cmp key)) pairs
 
 -- what is known is what stands behind the list
-pub record Knows (known : Known) (list : List Entry) : Type 0 where
+pub record KnowsHistory (known : Known) (list : List Entry) : Type 0 where
   pub faults : known.faults ≡ count_before list
   pub draw : known.draw ≡ draw_before list
   pub items : (key : List ℕ) → item_among known.items key ≡ item_before known.profile list key
 
 -- an illegal list needs no more to be known
 abbrev pub KnowsWhileLegal : Judgement → Known → List Entry → Type 0
-KnowsWhileLegal (Legal entries) known list = Knows known list
+KnowsWhileLegal (Legal entries) known list = KnowsHistory known list
 KnowsWhileLegal (Illegal place why) known list = ⊤
 
 -- The checker has taken the entries of the list, and no others.

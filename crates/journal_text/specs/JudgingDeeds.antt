@@ -52,10 +52,10 @@ IsLeft after key old new left.Item = after ≡ Some new
 IsLeft after key old new (left.Nothing gone) = (after ≡ None) × (gone ≡ key) × (new ≡ old)
 
 -- what a request leaves of the item that is there, or why it may not have been answered so
-abbrev pub Leaves : Profile → Item → Item → Request → Circumstances → Reply → Left → Type 0
-Leaves profile old new request at reply (left.Wrong why) =
+abbrev pub LeavesOf : Profile → Item → Item → Request → Circumstances → Reply → Left → Type 0
+LeavesOf profile old new request at reply (left.Wrong why) =
     IsWrongThere profile (Some old) request at reply why
-Leaves profile old new request at reply left =
+LeavesOf profile old new request at reply left =
     IsRightReply at.rose (own_reply profile (Some old) at.moment at.drawn request) reply
     × IsLeft (after_reply profile (Some old) at.moment at.drawn request.ask reply)
     request.key old new left

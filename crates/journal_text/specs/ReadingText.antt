@@ -5,29 +5,30 @@ use Rattle.asp_base.specs.Limits.{most_piece}
 use Rattle.session_machine.specs.declared.entry.Entry.{Entry}
 use Rattle.session_machine.specs.declared.profile.Profile.{Profile}
 use Rattle.plain_words.specs.Words.{HasNo, SplitsAt}
-use Rattle.journal_text.specs.WritingText.{head_words, entry_words, line, journal_text, PlaceFits, EntryFits, IsJournal, most_line}
+use Rattle.journal_text.specs.WritingText.{head_words, entry_words, line, journal_text, PlaceFits, EntryFits, IsJournal, most_journal_line}
 
 -- ---- lines
 
 -- the words are a line of its place: the first line where nothing was taken, and then the line of
 -- an entry in the profile of the first line
-abbrev pub IsLine : Option Profile → List ℕ → Type 0
-IsLine None words = (profile : Profile) × (place : ℕ) × PlaceFits place
+abbrev pub IsJournalLine : Option Profile → List ℕ → Type 0
+IsJournalLine None words = (profile : Profile) × (place : ℕ) × PlaceFits place
     × (words ≡ head_words profile place)
-IsLine (Some profile) words = (e : Entry) × EntryFits profile e × (words ≡ entry_words profile e)
+IsJournalLine (Some profile) words =
+    (e : Entry) × EntryFits profile e × (words ≡ entry_words profile e)
 
 -- the first line of the bytes is none of its place
-abbrev pub BeginsWrong : Option Profile → List ℕ → Type 0
-BeginsWrong begun bytes = (words rest : List ℕ) × SplitsAt 10 bytes words rest
-    × (¬ IsLine begun words)
+abbrev pub BeginsNoJournal : Option Profile → List ℕ → Type 0
+BeginsNoJournal begun bytes = (words rest : List ℕ) × SplitsAt 10 bytes words rest
+    × (¬ IsJournalLine begun words)
 
 -- there is no line feed among more bytes than a line has
 abbrev pub IsTooLong : List ℕ → Type 0
-IsTooLong bytes = HasNo 10 bytes × (most_line < length bytes)
+IsTooLong bytes = HasNo 10 bytes × (most_journal_line < length bytes)
 
 -- no line of its place begins the bytes, whatever follows them
 abbrev pub IsNoLine : Option Profile → List ℕ → Type 0
-IsNoLine begun bytes = BeginsWrong begun bytes ⊎ IsTooLong bytes
+IsNoLine begun bytes = BeginsNoJournal begun bytes ⊎ IsTooLong bytes
 
 -- ---- what was taken
 
@@ -74,7 +75,7 @@ pub record StopsAt (text : List ℕ) (offset : ℕ) : Type 0 where
 
 -- A reader: the bytes that were fed and not taken, how many were taken before them, the profile of
 -- the first line where it was taken, whether it is broken, and whether it may be fed.
-pub record Reading : Type 0 where
+pub record JournalReading : Type 0 where
   pub held : List ℕ
   pub offset : ℕ
   pub begun : Option Profile
@@ -82,15 +83,15 @@ pub record Reading : Type 0 where
   pub may_feed : Bool
 
 -- the most bytes that a reader holds: a line and a piece
-abbrev pub most_held : ℕ
-most_held = most_line + most_piece
+abbrev pub most_journal_held : ℕ
+most_journal_held = most_journal_line + most_piece
 
 -- a reader that was fed nothing
-abbrev pub new_reader : Reading
+abbrev pub new_reader : JournalReading
 new_reader = record { held = []; offset = 0; begun = None; is_broken = false; may_feed = true }
 
 -- with one piece more; a broken reader keeps nothing
-abbrev pub fed : Reading → List ℕ → Reading
+abbrev pub fed : JournalReading → List ℕ → JournalReading
 fed old piece = record old {
   held = if old.is_broken then [] else old.held ++ piece;
   may_feed =
@@ -98,15 +99,15 @@ fed old piece = record old {
 }
 
 -- that waits for more bytes
-abbrev pub waiting : Reading → Reading
+abbrev pub waiting : JournalReading → JournalReading
 waiting old = record old { may_feed = true }
 
 -- that is broken for good, at the line that it held
-abbrev pub broken : Reading → Reading
+abbrev pub broken : JournalReading → JournalReading
 broken old = record old { held = []; is_broken = true; may_feed = true }
 
 -- The line was taken from the front of the bytes held, and the first line has this profile.
-pub record TakesLine (profile : Profile) (words : List ℕ) (old new : Reading) : Type 0 where
+pub record TakesLine (profile : Profile) (words : List ℕ) (old new : JournalReading) : Type 0 where
   pub held : old.held ≡ line words ++ new.held
   pub offset : new.offset ≡ old.offset + length (line words)
   pub was_whole : IsFalse old.is_broken
@@ -114,18 +115,18 @@ pub record TakesLine (profile : Profile) (words : List ℕ) (old new : Reading) 
   pub begun : new.begun ≡ Some profile
 
 -- The line of the entry was taken so, in the profile of the first line, which was taken before.
-pub record TakesEntry (e : Entry) (old new : Reading) : Type 0 where
+pub record TakesEntry (e : Entry) (old new : JournalReading) : Type 0 where
   pub profile : Profile
   pub started : old.begun ≡ Some profile
   pub fits : EntryFits profile e
   pub takes : TakesLine profile (entry_words profile e) old new
 
 -- the bytes held are those behind what was taken; a broken reader stands at a line that is none
-abbrev pub HoldsRest : Reading → List ℕ → Type 0
+abbrev pub HoldsRest : JournalReading → List ℕ → Type 0
 HoldsRest r rest = MatchBool r.is_broken (IsNoLine r.begun rest) (rest ≡ r.held)
 
 -- The reader was fed the text, and this is what was taken of it.
-pub record HasRead (text : List ℕ) (taken : Taken) (r : Reading) : Type 0 where
+pub record HasRead (text : List ℕ) (taken : Taken) (r : JournalReading) : Type 0 where
   pub rest : List ℕ
   pub fits : TakenFits taken
   pub text_is : text ≡ taken_text taken ++ rest

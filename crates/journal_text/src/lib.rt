@@ -10,4 +10,4 @@ pub use judging::{
     Checker, Judgement, Why, illegal_stays, legal_is_judged_legal, one_judgement, write_judgement,
 };
 pub use reading::{JournalNext, JournalReader, lines_are_short, one_journal, stops_at_one_offset};
-pub use writing::{MOST_LINE, write_entry, write_head};
+pub use writing::{MOST_JOURNAL_LINE, write_entry, write_head};

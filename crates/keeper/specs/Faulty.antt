@@ -1,10 +1,10 @@
 -- A keeper with faults at its listed calls, as contracts see it.
 use Rattle.std.specs.Prelude.{◌≡◌, ℕ, ◌+◌, ◌-◌, ◌^◌, List, Option, min, Contains, Result, IsErrOf}
-use Rattle.asp_base.specs.InMemory.{one_more}
+use Rattle.asp_base.specs.InMemory.{counted_once_more}
 use Rattle.session_machine.specs.declared.item.Item.{Item}
-use Rattle.keeper.specs.Causes.{HasKeepCause}
-use Rattle.keeper.specs.declared.errors.KeepError.{KeepError}
-use Rattle.keeper.specs.declared.errors.KeepError.TheVariants.{Fault}
+use Rattle.keeper.specs.KeeperCauses.{HasKeepCause}
+use Rattle.keeper.specs.declared.keep_error.KeepError.{KeepError}
+use Rattle.keeper.specs.declared.keep_error.KeepError.TheVariants.{Fault}
 use Rattle.keeper.specs.declared.keeping.Keeper.{Ghosts}
 
 -- The keeper that it wraps, how many calls were made, which are listed, and how many of these were
@@ -36,13 +36,14 @@ module _ {K : Type 0} (G : Ghosts K) where
   abbrev pub HasCauseInAll : {T : Type 0} → Wrapped K → Wrapped K → Result T KeepError → Type 0
   HasCauseInAll old new result = HasKeepCause (faults_of old) (faults_of new) result
 
-  -- Each call is counted. A listed call is answered by a fault, which is counted, and does not reach
+  -- Each call is counted. A listed call is answered by a fault, which is counted, and does not
+  -- reach
   -- the keeper that it wraps; every other call is that keeper's, with its causes.
   pub record FailsListed {T : Type 0} (old new : Wrapped K) (result : Result T KeepError)
       : Type 0 where
-    pub calls : new.calls ≡ one_more old.calls
+    pub calls : new.calls ≡ counted_once_more old.calls
     pub fails : new.fails ≡ old.fails
     pub listed : Contains old.fails old.calls → IsErrOf result Fault × (new.inner ≡ old.inner)
-        × (new.faults ≡ one_more old.faults)
+        × (new.faults ≡ counted_once_more old.faults)
     pub other : ¬ Contains old.fails old.calls → (new.faults ≡ old.faults)
         × HasKeepCause (G.count old.inner) (G.count new.inner) result

@@ -1,6 +1,6 @@
 //! A keeper with faults where it is told to have them.
 ghost use Rattle.std.specs.Prelude.{◌≡◌, ◌↔◌, ℕ, ◌<◌, ◌^◌, Some, None, IfOk, IfSome, IsTrue, OnOk, OnErr, Contains, if◌then◌else◌};
-ghost use Rattle.asp_base.specs.InMemory.{one_more};
+ghost use Rattle.asp_base.specs.InMemory.{counted_once_more};
 ghost use Rattle.asp_messages.specs.Ranges.{KeyFits};
 ghost use Rattle.session_machine.specs.Liveness.{ItemFits};
 ghost use Rattle.keeper.specs.Due.{TellsDue};
@@ -12,7 +12,8 @@ use asp_base::Bytes;
 use session_machine::Item;
 use std::marker::Model;
 
-/// A keeper over another that answers the listed calls by faults. Its calls of `get`, `put`, `cut` and `due`
+/// A keeper over another that answers the listed calls by faults. Its calls of `get`, `put`, `cut`
+/// and `due`
 /// are numbered together, from 0.
 #[derive(Debug, Drop)]
 pub struct FaultyKeeper<K> {
@@ -54,10 +55,10 @@ impl<K> FaultyKeeper<K> {
     fn fails_next(&mut self) -> bool
         ensures listed { IsTrue result ↔ Contains self.old.fails self.old.calls }
         ensures inner { self.new.inner ≡ self.old.inner }
-        ensures calls { self.new.calls ≡ one_more self.old.calls }
+        ensures calls { self.new.calls ≡ counted_once_more self.old.calls }
         ensures fails { self.new.fails ≡ self.old.fails }
         ensures faults { self.new.faults
-            ≡ (if result then one_more self.old.faults else self.old.faults) }
+            ≡ (if result then counted_once_more self.old.faults else self.old.faults) }
     {
         let call = self.calls;
         self.calls = call.saturating_add(1);

@@ -1,8 +1,8 @@
 //! What keeps the items: a finite map from keys to items that may fail, and counts its faults.
 #![tactic(auto)]
 
-mod errors;
 mod faulty_keeper;
+mod keep_error;
 mod keeping;
 mod list_keeper;
 mod map_keeper;
@@ -10,8 +10,8 @@ mod pairs;
 mod pairs_due;
 mod ran;
 
-pub use errors::KeepError;
 pub use faulty_keeper::FaultyKeeper;
+pub use keep_error::KeepError;
 pub use keeping::Keeper;
 pub use list_keeper::ListKeeper;
 pub use map_keeper::{Due, MapKeeper};

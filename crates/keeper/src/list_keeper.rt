@@ -2,7 +2,7 @@
 ghost use Rattle.std.specs.Prelude.{◌≡◌, ℕ, [], Some, None, IfOk, IfSome, IsOk, IsSome, OnOk, OnErr};
 ghost use Rattle.asp_messages.specs.Ranges.{KeyFits};
 ghost use Rattle.session_machine.specs.Liveness.{ItemFits};
-ghost use Rattle.keeper.specs.Causes.{HasKeepCause};
+ghost use Rattle.keeper.specs.KeeperCauses.{HasKeepCause};
 ghost use Rattle.keeper.specs.Due.{TellsDue};
 ghost use Rattle.keeper.specs.Items.{Sets};
 ghost use Rattle.keeper.specs.Pairs.{item_at};
@@ -15,7 +15,8 @@ use session_machine::Item;
 use std::alloc::Global;
 use std::marker::Model;
 
-/// A keeper in memory, over a list of pairs of key and item. It counts no fault, but may want memory.
+/// A keeper in memory, over a list of pairs of key and item. It counts no fault, but may want
+/// memory.
 /// Contracts see the list.
 #[derive(Debug, Drop)]
 pub struct ListKeeper {

@@ -3,7 +3,7 @@ ghost use Rattle.std.specs.Prelude.{◌≡◌, ℕ, [], Some, None, true, IfOk, 
 ghost use Rattle.std.specs.BTreeSet.{contains};
 ghost use Rattle.asp_messages.specs.Ranges.{KeyFits};
 ghost use Rattle.session_machine.specs.Liveness as liveness;
-ghost use Rattle.keeper.specs.Causes.{HasKeepCause};
+ghost use Rattle.keeper.specs.KeeperCauses.{HasKeepCause};
 ghost use Rattle.keeper.specs.Due.{TellsDue};
 ghost use Rattle.keeper.specs.Items.{Sets};
 ghost use Rattle.keeper.specs.Ordered.{HoldsDues, IsKept, MovesDue, due_cmp, item_of};

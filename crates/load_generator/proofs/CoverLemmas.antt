@@ -11,10 +11,10 @@ use Rattle.session_machine.specs.declared.entry.Deed.TheVariants.{Asked, Expired
 use Rattle.session_machine.specs.declared.item.Item.{Item}
 use Rattle.session_machine.specs.Profiles.{newest}
 use Rattle.session_machine.specs.History.{Marked, marked, has_risen, is_deed_of, entries_of, after_deed, after_entry, DeedStands, IsDead, Lead, nothing}
-use Rattle.shard_core.specs.Standing.{TellsAfter}
+use Rattle.shard_core.specs.ShardStands.{TellsAfter}
 use Rattle.load_generator.specs.Load.{Generating, AreMade, answered, next_request}
-use Rattle.load_generator.specs.Run.{IsExpiry, IsRemoval}
-use Rattle.desk.specs.Draws.{draws}
+use Rattle.load_generator.specs.LoadRun.{IsExpiry, IsLastRemoval}
+use Rattle.plain_desk.specs.Draws.{draws}
 
 -- ---- keys
 
@@ -190,7 +190,7 @@ removal_expires (Asked request) is = absurd is
 removal_expires (Expired key) is = (refl, refl)
 removal_expires Looked is = absurd is
 
-removals_expire : (es : List Entry) → AllByRecursion IsRemoval es
+removals_expire : (es : List Entry) → AllByRecursion IsLastRemoval es
     → (asked es ≡ 0) × (expired es ≡ length es)
 removals_expire [] all = (refl, refl)
 removals_expire (e ∷ es) all =
@@ -201,7 +201,7 @@ removals_expire (e ∷ es) all =
 -- Over a keeper that tells its items no more are removed than requests were made.
 pub few_removed : (g : Generating) (requests removals : List Entry)
     (told : Option (List ℕ → Option Item)) → AreMade g 0 requests
-    → AllByRecursion IsRemoval removals
+    → AllByRecursion IsLastRemoval removals
     → TellsAfter nothing 0 (requests ++ removals) told → length requests < length removals
     → told ≡ None
 few_removed g requests removals None made gone after more = refl

@@ -3,17 +3,17 @@ use Rattle.std.proofs.Common.{◌≡◌, ℕ, ◌+◌, List, [], ◌++◌, lengt
 use Rattle.std.specs.Prelude.{◌⊎◌}
 use Rattle.std.specs.List.{AllByRecursion}
 use Rattle.asp_base.specs.Outside.{Takes, TakesFront}
-use Rattle.desk.specs.Standing.{DeskState}
+use Rattle.plain_desk.specs.DeskStands.{DeskState}
 use Rattle.session_machine.specs.declared.entry.Entry.{Entry}
 use Rattle.session_machine.specs.History.{nothing}
-use Rattle.shard_core.specs.Standing.{StandsFor}
-use Rattle.load_generator.specs.declared.counts.Counts.{Counts}
+use Rattle.shard_core.specs.ShardStands.{StandsFor}
+use Rattle.load_generator.specs.declared.status_counts.Counts.{Counts}
 use Rattle.load_generator.specs.declared.load.Load.{Load}
-use Rattle.load_generator.specs.Counting.{CountsAre, counts_text}
+use Rattle.load_generator.specs.StatusCounting.{CountsAre, counts_text}
 use Rattle.load_generator.specs.Load.{seeded}
-use Rattle.load_generator.specs.Run.{LoadEnd, IsLoad, EndsLoad, EndsSweep, load_text}
-use Rattle.load_generator.specs.Running.{WritesCounts}
-use Rattle.load_generator.specs.Steps.{HasAsked, Sweeps}
+use Rattle.load_generator.specs.LoadRun.{LoadEnd, IsLoad, EndsLoad, EndsLoadSweep, load_text}
+use Rattle.load_generator.specs.LoadRunning.{WritesCounts}
+use Rattle.load_generator.specs.LoadSteps.{HasAsked, SweepsLoad}
 use Rattle.load_generator.proofs.LoadLemmas.{counts_text-is}
 use Rattle.load_generator.proofs.CoverLemmas.{few_removed}
 
@@ -52,7 +52,7 @@ pub finished : (CanCount : ℕ → Type 0) (load : Load) (removed status : ℕ)
     (sink sink' : Option (List ℕ)) (state : DeskState) (counts : Counts) (list : List Entry)
     → (made : (before : DeskState) × HasAsked CanCount load.seed list before)
     → length list ≡ load.requests → CountsAre counts list
-    → Sweeps CanCount 1 (load.requests + 1) list state removed
+    → SweepsLoad CanCount 1 (load.requests + 1) list state removed
     → WritesCounts status sink sink' (counts_text load.requests counts removed)
     → IsLoad CanCount load sink (ended status sink' state)
 finished CanCount load removed status sink sink' state counts list made all are swept writes =
@@ -75,11 +75,11 @@ finished CanCount load removed status sink sink' state counts list made all are 
         ∙ counts_text-is counts list swept.removals are
 
     by_looks : ((swept.looks ≡ []) × (removed ≡ load.requests + 1))
-        ⊎ EndsSweep state.told swept.looks
-        → EndsSweep state.told swept.looks
+        ⊎ EndsLoadSweep state.told swept.looks
+        → EndsLoadSweep state.told swept.looks
     by_looks (inl none) =
         let counted = swept.counted in
-        subst (λ (l : List Entry). EndsSweep state.told l) (sym none.0)
+        subst (λ (l : List Entry). EndsLoadSweep state.told l) (sym none.0)
         (few_removed (seeded load.seed) list swept.removals state.told made.1.made swept.expired
         (subst (λ (l : List Entry). StandsFor nothing 0 l state.told state.faults)
         (ap (λ (l : List Entry). list ++ swept.removals ++ l) none.0

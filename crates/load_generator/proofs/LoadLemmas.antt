@@ -5,14 +5,14 @@ use Rattle.std.proofs.lemmas.List.Sums.{count_by-le-length, sum_by-append}
 use Rattle.asp_messages.specs.declared.reply.Reply.{Reply}
 use Rattle.asp_messages.specs.declared.reply.Reply.TheVariants as replies
 use Rattle.asp_messages.specs.Fields.{most_cookie}
-use Rattle.asp_messages.specs.ReplyText.{status_number}
-use Rattle.desk.specs.Draws.{draw_of, draws, deed_draws, draws_in}
+use Rattle.asp_messages.specs.ReplyText.{http_status}
+use Rattle.plain_desk.specs.Draws.{draw_of, draws, deed_draws, draws_in}
 use Rattle.session_machine.specs.declared.entry.Entry.{Entry}
 use Rattle.session_machine.specs.declared.entry.Deed.TheVariants.{Asked}
-use Rattle.load_generator.specs.declared.counts.Counts.{Counts}
-use Rattle.load_generator.specs.Counting.{CountsAre, AreBelow, counted, counts_text}
+use Rattle.load_generator.specs.declared.status_counts.Counts.{Counts}
+use Rattle.load_generator.specs.StatusCounting.{CountsAre, AreBelow, counted, counts_text}
 use Rattle.load_generator.specs.Load.{Generating, next_request, next_moment, answered, generated, AreMade}
-use Rattle.load_generator.specs.Run.{count_of, load_text}
+use Rattle.load_generator.specs.LoadRun.{count_of, load_text}
 
 -- ---- the generator
 
@@ -50,8 +50,8 @@ AreMade-push g j (f ∷ fs) e made caller moment deed drawn =
 
 pub count_of-push : (status : ℕ) (es : List Entry) (e : Entry)
     → count_of status (es ++ e ∷ []) ≡ count_of status es
-    + cond (status_number e.reply == status) 1 0
-count_of-push status es e = sum_by-append (λ (f : Entry). cond (status_number f.reply == status) 1
+    + cond (http_status e.reply == status) 1 0
+count_of-push status es e = sum_by-append (λ (f : Entry). cond (http_status f.reply == status) 1
     0) es (e ∷ []) ∙ ap (λ n. count_of status es + n) (omega arith)
 
 -- the counts with the reply of one entry more
@@ -61,17 +61,17 @@ CountsAre-push counts es e are = by_reply e.reply refl
   where
     with_reply : (reply : Reply) → e.reply ≡ reply → (status : ℕ)
         → count_of status (es ++ e ∷ []) ≡ count_of status es
-        + cond (status_number reply == status) 1 0
+        + cond (http_status reply == status) 1 0
     with_reply reply is status = count_of-push status es e
-        ∙ ap (λ r. count_of status es + cond (status_number r == status) 1 0) is
+        ∙ ap (λ r. count_of status es + cond (http_status r == status) 1 0) is
 
     same : (reply : Reply) → e.reply ≡ reply → (status n : ℕ) → n ≡ count_of status es
-        → (status_number reply == status) ≡ false → n ≡ count_of status (es ++ e ∷ [])
+        → (http_status reply == status) ≡ false → n ≡ count_of status (es ++ e ∷ [])
     same reply is status n before other = let more = with_reply reply is status
         ∙ ap (λ (b : Bool). count_of status es + cond b 1 0) other in omega (arith, before, more)
 
     more : (reply : Reply) → e.reply ≡ reply → (status n : ℕ) → n ≡ count_of status es
-        → (status_number reply == status) ≡ true → n + 1 ≡ count_of status (es ++ e ∷ [])
+        → (http_status reply == status) ≡ true → n + 1 ≡ count_of status (es ++ e ∷ [])
     more reply is status n before this = let one = with_reply reply is status
         ∙ ap (λ (b : Bool). count_of status es + cond b 1 0) this in omega (arith, before, one)
 
@@ -236,7 +236,7 @@ CountsAre-below counts es n are few = record {
 }
   where
     below : (status c : ℕ) → c ≡ count_of status es → c < n
-    below status c is = let le = count_by-le-length (λ (e : Entry). status_number e.reply == status)
+    below status c is = let le = count_by-le-length (λ (e : Entry). http_status e.reply == status)
         es in omega (arith, is, le, few)
 
 -- the text with these counts is that of the entries

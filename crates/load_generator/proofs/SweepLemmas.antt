@@ -2,7 +2,7 @@
 use Rattle.std.proofs.Common.{◌≡◌, ℕ, ◌+◌, ◌<◌, List, [], ◌∷◌, ◌++◌, Option, None, refl, sym, arith, subst, inl, inr, append_assoc, append-nil, length-append}
 use Rattle.asp_base.specs.declared.bytes.Bytes.{Bytes}
 use Rattle.asp_base.specs.Moments.{last_moment}
-use Rattle.desk.specs.Standing.{DeskState, DeskStandsFor}
+use Rattle.plain_desk.specs.DeskStands.{DeskState, DeskStandsFor}
 use Rattle.keeper.specs.Due.{TellsDue}
 use Rattle.session_machine.specs.declared.entry.Entry.{Entry}
 use Rattle.session_machine.specs.declared.item.Item.{Item}
@@ -11,13 +11,13 @@ use Rattle.session_machine.proofs.HistoryLemmas.{All-push}
 use Rattle.shard_core.specs.declared.shard.Swept.{Swept}
 use Rattle.shard_core.specs.declared.shard.Swept.TheVariants as swept
 use Rattle.shard_core.specs.Sweeping.{swept_entry, IsUnmoved}
-use Rattle.load_generator.specs.Run.{IsRemoval, EndsSweep}
-use Rattle.load_generator.specs.Steps.{Removes, Sweeps}
+use Rattle.load_generator.specs.LoadRun.{IsLastRemoval, EndsLoadSweep}
+use Rattle.load_generator.specs.LoadSteps.{Removes, SweepsLoad}
 
 -- a look that removed no item ends the sweep
 pub look_ends : (told : Option (List ℕ → Option Item)) (s : Swept) (faults : ℕ) → IsUnmoved s
     → (s ≡ swept.Nothing → TellsDue told last_moment None)
-    → EndsSweep told (swept_entry 0 last_moment s faults ∷ [])
+    → EndsLoadSweep told (swept_entry 0 last_moment s faults ∷ [])
 look_ends told (swept.Removed key) faults unmoved none = absurd unmoved
 look_ends told swept.Nothing faults unmoved none = ((refl, refl, refl), λ done. none refl)
 look_ends told swept.KeeperFault faults unmoved none = ((refl, refl, refl), λ done. cc)
@@ -50,7 +50,7 @@ pub Removes-push : (CanCount : ℕ → Type 0) (first : ℕ) (list : List Entry)
 Removes-push CanCount first list old new removed key before stand =
     record {
       removals = before.removals ++ entry ∷ [];
-      expired = All-push IsRemoval before.removals entry before.expired (tt, refl, refl);
+      expired = All-push IsLastRemoval before.removals entry before.expired (tt, refl, refl);
       counted = let so_far = before.counted in let more =
           length-append before.removals (entry ∷ []) in
           omega (arith, so_far, more);
@@ -61,14 +61,14 @@ Removes-push CanCount first list old new removed key before stand =
     entry : Entry
     entry = swept_entry 0 last_moment (swept.Removed key) new.faults
 
-pub Sweeps-look : (CanCount : ℕ → Type 0) (first most : ℕ) (list : List Entry)
+pub SweepsLoad-look : (CanCount : ℕ → Type 0) (first most : ℕ) (list : List Entry)
     (old new : DeskState) (removed : ℕ) (s : Swept)
     → (before : Removes CanCount first list old removed)
     → DeskStandsFor CanCount first nothing 0 ((list ++ before.removals)
     ++ swept_entry 0 last_moment s new.faults ∷ []) new
     → IsUnmoved s → (s ≡ swept.Nothing → TellsDue new.told last_moment None) → removed < most
-    → Sweeps CanCount first most list new removed
-Sweeps-look CanCount first most list old new removed s before stand unmoved none left = record {
+    → SweepsLoad CanCount first most list new removed
+SweepsLoad-look CanCount first most list old new removed s before stand unmoved none left = record {
   removals = before.removals;
   looks = entry ∷ [];
   expired = before.expired;
@@ -81,11 +81,11 @@ Sweeps-look CanCount first most list old new removed s before stand unmoved none
     entry : Entry
     entry = swept_entry 0 last_moment s new.faults
 
-pub Sweeps-all : (CanCount : ℕ → Type 0) (first most : ℕ) (list : List Entry)
+pub SweepsLoad-all : (CanCount : ℕ → Type 0) (first most : ℕ) (list : List Entry)
     (state : DeskState) (removed : ℕ)
     → (before : Removes CanCount first list state removed) → removed ≡ most
-    → Sweeps CanCount first most list state removed
-Sweeps-all CanCount first most list state removed before all = record {
+    → SweepsLoad CanCount first most list state removed
+SweepsLoad-all CanCount first most list state removed before all = record {
   removals = before.removals;
   looks = [];
   expired = before.expired;

@@ -1,5 +1,5 @@
-pub mod Counting
+pub mod StatusCounting
 pub mod Load
-pub mod Run
-pub mod Running
-pub mod Steps
+pub mod LoadRun
+pub mod LoadRunning
+pub mod LoadSteps

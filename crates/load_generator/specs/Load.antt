@@ -7,7 +7,7 @@ use Rattle.asp_messages.specs.declared.request.Ask.TheVariants.{Read, Acquire, R
 use Rattle.asp_messages.specs.declared.reply.Reply.{Reply}
 use Rattle.asp_messages.specs.declared.reply.Reply.TheVariants.{Found}
 use Rattle.asp_messages.specs.Fields.{most_cookie}
-use Rattle.desk.specs.Draws.{draw_of, draws}
+use Rattle.plain_desk.specs.Draws.{draw_of, draws}
 use Rattle.session_machine.specs.declared.entry.Entry.{Entry}
 use Rattle.session_machine.specs.declared.entry.Deed.TheVariants.{Asked}
 

@@ -14,12 +14,12 @@ const MINUTES: u64 = 20;
 
 /// The key of a number and the cookie of an acquire that was answered `Found`.
 #[derive(Drop)]
-struct Grant {
+struct LatestGrant {
     number: u64,
     cookie: u64,
 }
 
-impl Model for Grant {
+impl Model for LatestGrant {
     ghost use Rattle.std.specs.Prelude.{◌<◌, ◌^◌};
     ghost use Rattle.load_generator.specs.Load.{Granted, numbered_key};
 
@@ -35,7 +35,7 @@ impl Model for Grant {
 pub struct Generator {
     number: u64,
     made: u64,
-    grant: Option<Grant>,
+    grant: Option<LatestGrant>,
 }
 
 impl Model for Generator {
@@ -94,12 +94,16 @@ fn asking(alloc: Global, number: u64, ask: Ask) -> Result<Request, NoMemory>
 }
 
 /// A release of the latest grant, else of cookie 0.
-fn release(alloc: Global, drawn: u64, grant: &Option<Grant>) -> Result<Request, NoMemory>
+fn release(alloc: Global, drawn: u64, grant: &Option<LatestGrant>) -> Result<Request, NoMemory>
     ensures request { IfOk result (λ request. request ≡ release (numbered_key drawn) grant.now) }
     ensures fits { IfOk result RequestFits }
 {
     match grant {
-        Some(Grant { number, cookie }) => asking(alloc, *number, Ask::Release { cookie: *cookie }),
+        Some(LatestGrant { number, cookie }) => asking(
+            alloc,
+            *number,
+            Ask::Release { cookie: *cookie },
+        ),
         None => asking(alloc, drawn, Ask::Release { cookie: 0 }),
     }
 }
@@ -109,14 +113,14 @@ fn named_write(
     alloc: Global,
     k: u64,
     drawn: u64,
-    grant: &Option<Grant>,
+    grant: &Option<LatestGrant>,
 ) -> Result<Request, NoMemory>
     ensures request { IfOk result (λ request. request
         ≡ named_write k (numbered_key drawn) grant.now) }
     ensures fits { IfOk result RequestFits }
 {
     match grant {
-        Some(Grant { number, cookie }) => {
+        Some(LatestGrant { number, cookie }) => {
             let ask = write(alloc, k, Some(*cookie))?;
             asking(alloc, *number, ask)
         }
@@ -133,7 +137,7 @@ fn request_of(
     kind: u64,
     k: u64,
     drawn: u64,
-    grant: &Option<Grant>,
+    grant: &Option<LatestGrant>,
 ) -> Result<Request, NoMemory>
     ensures request { IfOk result (λ request. request
         ≡ request_of kind k (numbered_key drawn) grant.now) }
@@ -204,7 +208,7 @@ impl Generator {
                 ..
             } = reply
         {
-            self.grant = Some(Grant {
+            self.grant = Some(LatestGrant {
                 number: part / 8,
                 cookie: *cookie,
             });

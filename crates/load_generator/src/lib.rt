@@ -2,9 +2,9 @@
 //! counted.
 #![tactic(auto)]
 
-mod counts;
 mod generator;
 mod load;
-mod sweep;
+mod load_sweep;
+mod status_counts;
 
 pub use load::{Load, run_load};

@@ -6,18 +6,18 @@ ghost use Rattle.asp_messages.specs.Fields.{most_cookie};
 ghost use Rattle.keeper.specs.Items.{IsEmptyTold};
 ghost use Rattle.session_machine.specs.declared.entry.Entry.{Entry};
 ghost use Rattle.session_machine.specs.History.{nothing};
-ghost use Rattle.load_generator.specs.Counting.{CountsAre, counts_text};
-ghost use Rattle.load_generator.specs.Steps.{DeskHasAsked};
-ghost use Rattle.load_generator.specs.Run.{RanLoad};
-ghost use Rattle.load_generator.specs.Running.{LoadFits, WritesCounts};
+ghost use Rattle.load_generator.specs.StatusCounting.{CountsAre, counts_text};
+ghost use Rattle.load_generator.specs.LoadSteps.{DeskHasAsked};
+ghost use Rattle.load_generator.specs.LoadRun.{RanLoad};
+ghost use Rattle.load_generator.specs.LoadRunning.{LoadFits, WritesCounts};
 
-use crate::counts::Counts;
 use crate::generator::Generator;
-use crate::sweep::sweep;
+use crate::load_sweep::sweep;
+use crate::status_counts::Counts;
 use asp_base::{Failed, NoMemory, Sink, status, write_whole};
 use asp_messages::MOST_COOKIE;
-use desk::Desk;
 use keeper::{Keeper, Ran};
+use plain_desk::PlainDesk;
 use std::alloc::Global;
 
 /// What a load is told.
@@ -30,7 +30,11 @@ pub struct Load {
 }
 
 /// Makes each request of the load and counts its reply.
-fn ask_all<K: Keeper>(alloc: Global, load: Load, desk: &mut Desk<K>) -> Result<Counts, NoMemory>
+fn ask_all<K: Keeper>(
+    alloc: Global,
+    load: Load,
+    desk: &mut PlainDesk<K>,
+) -> Result<Counts, NoMemory>
     requires load { LoadFits load }
     requires desk { DeskHasAsked ⟦<K as Keeper>⟧ load.seed [] desk.old }
     requires last { desk.old.cookies.last ≡ most_cookie }
@@ -87,7 +91,7 @@ pub fn run_load<T: Sink, K: Keeper>(alloc: Global, load: Load, sink: &mut T, kee
     ensures sink_count { T.faults sink.old ≤ T.faults sink.new }
     ensures floor { K.floor result.keeper ≡ K.floor keeper }
 {
-    let mut desk = Desk::new(alloc, keeper, 1, MOST_COOKIE);
+    let mut desk = PlainDesk::new(alloc, keeper, 1, MOST_COOKIE);
     let Ok(counts) = ask_all(alloc, load, &mut desk) else {
         return Ran {
             status: status::NO_MEMORY,

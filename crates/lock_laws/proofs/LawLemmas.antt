@@ -9,7 +9,7 @@ use Rattle.session_machine.specs.declared.item.Hold.{Hold}
 use Rattle.session_machine.specs.History.{is_deed_of, IsLegal, IsLegalIn, item_after_in}
 use Rattle.session_machine.specs.Profiles.{newest}
 use Rattle.lock_laws.specs.InForce.{Grant, granted, grant_under, grant_of, last_grant, IsGranted, on_key, life_of, last_life, runs_out, ends, Lasts, IsInForce}
-use Rattle.lock_laws.specs.Laws.{StandsAt, named_by, content_of, ActsOnlyInForce, InForceIsDone, NoUpdateIsLost, Changes, NobodyElse, LocksHold, LocksHoldIn}
+use Rattle.lock_laws.specs.Laws.{StandsAt, named_by, content_with_minutes, ActsOnlyInForce, InForceIsDone, NoUpdateIsLost, Changes, NobodyElse, LocksHold, LocksHoldIn}
 use Rattle.lock_laws.proofs.EntryLemmas.{OneEntry}
 use Rattle.lock_laws.proofs.WordsLemmas.{IsHeld, Stands, on_key-same, Lasts-split, granted-locked, lasts-stands, locked-held}
 use Rattle.lock_laws.proofs.LegalLemmas.{run-of_legal, one-grant}
@@ -132,12 +132,12 @@ told (Some grant) = Some (grant.body, grant.minutes)
 
 -- an item has the content of the grant that it stands for
 locked-content : (old : Option Item) (grant : Grant) → grant_of old ≡ Some grant
-    → content_of old ≡ Some (grant.body, grant.minutes)
+    → content_with_minutes old ≡ Some (grant.body, grant.minutes)
 locked-content None grant is = absurd (cc is)
 locked-content (Some item) grant is = under item.holder is
   where
     under : (holder : Option Hold) → grant_under holder item ≡ Some grant
-        → content_of (Some item) ≡ told (Some grant)
+        → content_with_minutes (Some item) ≡ told (Some grant)
     under None g = absurd (cc g)
     under (Some hold) g = ap told g
 
@@ -155,7 +155,7 @@ no_update_is_lost profile opening count list legal key before e grant until sinc
     by_lock : (other : Grant) → grant_of (item_after_in profile opening count before key)
         ≡ Some other
         → other.cookie ≡ grant.cookie
-        → content_of (item_after_in profile opening count before key) ≡ Some (
+        → content_with_minutes (item_after_in profile opening count before key) ≡ Some (
           grant.body,
           grant.minutes,
         )

@@ -67,9 +67,9 @@ IsAnsweredUnderLock KeeperFault = ⊤
 IsAnsweredUnderLock reply = ⊥
 
 -- the content and the minutes of an item
-abbrev pub content_of : Option Item → Option (List ℕ × ℕ)
-content_of None = None
-content_of (Some item) = Some (item.body, item.minutes)
+abbrev pub content_with_minutes : Option Item → Option (List ℕ × ℕ)
+content_with_minutes None = None
+content_with_minutes (Some item) = Some (item.body, item.minutes)
 
 -- the lock on an item
 abbrev pub hold_of : Option Item → Option Hold
@@ -109,7 +109,8 @@ NoUpdateIsLost profile opening count list =
     → IsTrue (is_asked is_write e.deed) → named_by e.deed ≡ Some grant.cookie
     → Acts profile opening count key before e
     → IsGranted opening key grant before until since
-    → content_of (item_after_in profile opening count before key) ≡ Some (grant.body, grant.minutes)
+    → content_with_minutes (item_after_in profile opening count before key)
+    ≡ Some (grant.body, grant.minutes)
 
 -- The entry is a write or a removal, and it acts.
 pub record Changes (profile : Profile) (opening : List ℕ → Option Item) (count : ℕ) (key : List ℕ)

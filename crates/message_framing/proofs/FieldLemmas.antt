@@ -6,7 +6,7 @@ use Rattle.std.proofs.Common.{◌+◌, ◌<◌, length, take, get_or, map, ◌�
 use Rattle.asp_base.specs.Text.{is_same_name}
 use Rattle.asp_messages.specs.Fields.{values, once}
 use Rattle.asp_messages.specs.Fields as fields
-use Rattle.message_framing.specs.Standings.{one_more}
+use Rattle.message_framing.specs.Standings.{one_more_value}
 
 values-append-step : (b : Bool) (v : List ℕ) (xs ys : List (List ℕ))
     → cond b (v ∷ (xs ++ ys)) (xs ++ ys) ≡ cond b (v ∷ xs) xs ++ ys
@@ -21,7 +21,7 @@ values-push (g ∷ gs) f name =
     ∙ values-append-step (is_same_name g.0 name) g.1 (values gs name) (values (f ∷ []) name)
 
 standing-push : (vs : List (List ℕ)) (v : List ℕ)
-    → fields.occurrence (vs ++ v ∷ []) ≡ one_more (fields.occurrence vs) v
+    → fields.occurrence (vs ++ v ∷ []) ≡ one_more_value (fields.occurrence vs) v
 standing-push [] v = refl
 standing-push (w ∷ []) v = refl
 standing-push (w ∷ x ∷ vs) v = refl
@@ -33,7 +33,7 @@ append-nil' (v ∷ vs) = ap (λ t. v ∷ t) (append-nil' vs)
 -- a field of the name
 pub once-found : (fs : List (List ℕ × List ℕ)) (f : List ℕ × List ℕ) (name : List ℕ)
     → is_same_name f.0 name ≡ true
-    → once (fs ++ f ∷ []) name ≡ one_more (once fs name) f.1
+    → once (fs ++ f ∷ []) name ≡ one_more_value (once fs name) f.1
 once-found fs f name same =
     ap fields.occurrence (values-push fs f name
     ∙ ap (λ b. values fs name ++ cond b (f.1 ∷ []) []) same)
@@ -58,7 +58,7 @@ pub found-next : (buf name : List ℕ) (headers : List HeaderSpan) (i : ℕ) (d 
     → i < length headers
     → is_same_name (span_bytes buf (get_or headers i d).name) name ≡ true
     → once (map (header_bytes buf) (take (i + 1) headers)) name
-    ≡ one_more (once (map (header_bytes buf) (take i headers)) name)
+    ≡ one_more_value (once (map (header_bytes buf) (take i headers)) name)
     (span_bytes buf (get_or headers i d).value)
 found-next buf name headers i d below same =
     ap (λ fs. once fs name) (next_field buf headers i d below)

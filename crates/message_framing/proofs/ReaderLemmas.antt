@@ -5,14 +5,14 @@ use Rattle.asp_messages.specs.Head.{most_head}
 use Rattle.asp_messages.specs.Stream.{HasNoMessage, IsHopeless}
 use Rattle.message_framing.specs.declared.head_end.Phase.{Phase}
 use Rattle.message_framing.specs.declared.head_end.Phase.TheVariants.{Blank}
-use Rattle.message_framing.specs.declared.kind.Begun.{Begun}
-use Rattle.message_framing.specs.declared.reader.Found.{Found}
-use Rattle.message_framing.specs.declared.reader.Found.TheVariants as founds
-use Rattle.message_framing.specs.declared.reader.State.{State}
-use Rattle.message_framing.specs.declared.reader.State.TheVariants as states
-use Rattle.message_framing.specs.Framed.{Framed, Gives, IsRead, IfFound, Stands, TakesFramed, is_broken_state, looks_of}
+use Rattle.message_framing.specs.declared.message_kind.Begun.{Begun}
+use Rattle.message_framing.specs.declared.message_reader.Found.{Found}
+use Rattle.message_framing.specs.declared.message_reader.Found.TheVariants as founds
+use Rattle.message_framing.specs.declared.message_reader.State.{State}
+use Rattle.message_framing.specs.declared.message_reader.State.TheVariants as states
+use Rattle.message_framing.specs.Framed.{Framed, GivesMessage, IsRead, IfFound, SearchStands, TakesFramed, is_broken_state, looks_of}
 use Rattle.message_framing.specs.HeadEnd.{seen, EndsHead}
-use Rattle.message_framing.specs.Held.{Reading, TakesMessage}
+use Rattle.message_framing.specs.ReaderState.{CountedReader, TakesMessage}
 use Rattle.message_framing.specs.Looks.{IsOpen}
 use Rattle.message_framing.proofs.EndLemmas.{none-seen, long-seen, ends-same}
 
@@ -93,7 +93,7 @@ module _ {M : Type 0} (Means : List ℕ → List ℕ → M → Type 0) (Spells :
 
   -- a head and a body that were taken spell the message
   pub spelled-taken : ((text body : List ℕ) (m : M) → Means text body m → Spells (text ++ body) m)
-      → (old new : Reading) (ticks : ℕ) (m : M) → TakesFramed Means old new ticks m
+      → (old new : CountedReader) (ticks : ℕ) (m : M) → TakesFramed Means old new ticks m
       → TakesMessage Spells old.bytes new.bytes m
   spelled-taken spells old new ticks m took = record {
     front = took.text ++ took.body;
@@ -107,7 +107,7 @@ module _ {M : Type 0} (Means : List ℕ → List ℕ → M → Type 0) (Spells :
 -- the looks at a message that may still come
 pub stands-looks : {M : Type 0} (IsHead : List ℕ → ℕ → Type 0)
     (Means : List ℕ → List ℕ → M → Type 0) (filled : M → List ℕ → M) (state : State M)
-    (held : List ℕ) → Stands IsHead Means filled state held → is_broken_state state ≡ false
+    (held : List ℕ) → SearchStands IsHead Means filled state held → is_broken_state state ≡ false
     → looks_of state ≤ 2 * min (length held) most_head
 stands-looks IsHead Means filled (states.Looking n phase) held so whole =
     omega (arith, so.within, so.short)
@@ -126,7 +126,7 @@ pub gives : {M : Type 0} (IsHead : List ℕ → ℕ → Type 0) (Means : List �
     (filled : M → List ℕ → M) (held body left : List ℕ) (n : ℕ) (begun : Begun M) (m : M)
     → IsRead IsHead Means filled held n begun → n + begun.body_len ≤ length held
     → body ≡ take begun.body_len (drop n held) → left ≡ drop (n + begun.body_len) held
-    → m ≡ filled begun.message body → Gives Means (states.Read n begun) held left m
+    → m ≡ filled begun.message body → GivesMessage Means (states.Read n begun) held left m
 gives IsHead Means filled held body left n begun m read come is rest filled_is =
     let wanted = begun.body_len in
     let room : wanted ≤ length (drop n held) = omega (arith, length-drop n held) in

@@ -2,12 +2,12 @@
 use Rattle.std.specs.Prelude.{◌≡◌, ℕ, ◌+◌, ◌*◌, ◌≤◌, List, [], ◌++◌, length, take, min, Bool, true, false, IsTrue, IsFalse, ⊤, ◌⊎◌}
 use Rattle.asp_messages.specs.Head.{most_head}
 use Rattle.asp_messages.specs.Stream.{HasNoMessage, IsHopeless}
-use Rattle.message_framing.specs.declared.kind.Begun.{Begun}
-use Rattle.message_framing.specs.declared.reader.Found.{Found}
-use Rattle.message_framing.specs.declared.reader.Found.TheVariants as founds
-use Rattle.message_framing.specs.declared.reader.State.{State}
-use Rattle.message_framing.specs.declared.reader.State.TheVariants as states
-use Rattle.message_framing.specs.Held.{Reading, TakesMessage, waiting, broken, most_held}
+use Rattle.message_framing.specs.declared.message_kind.Begun.{Begun}
+use Rattle.message_framing.specs.declared.message_reader.Found.{Found}
+use Rattle.message_framing.specs.declared.message_reader.Found.TheVariants as founds
+use Rattle.message_framing.specs.declared.message_reader.State.{State}
+use Rattle.message_framing.specs.declared.message_reader.State.TheVariants as states
+use Rattle.message_framing.specs.ReaderState.{CountedReader, TakesMessage, waiting, broken, most_held}
 use Rattle.message_framing.specs.Looks.{IsOpen, IsEnded}
 
 -- The bytes are a head's text and a body, and together they mean a message.
@@ -59,7 +59,7 @@ is_broken_state (states.Read n begun) = false
 is_broken_state (states.Broken n) = true
 
 -- what callers see of a reader
-abbrev pub reading_of : {M : Type 0} → State M → List ℕ → Bool → Reading
+abbrev pub reading_of : {M : Type 0} → State M → List ℕ → Bool → CountedReader
 reading_of state held may_feed = record {
   bytes = record {
     held = held;
@@ -78,12 +78,13 @@ pub record IsRead {M : Type 0} (IsHead : List ℕ → ℕ → Type 0)
   pub means : BeginsMessage Means filled (take n bytes) begun
 
 -- the state of a reader and the bytes that it holds
-abbrev pub Stands : {M : Type 0} → (List ℕ → ℕ → Type 0) → (List ℕ → List ℕ → M → Type 0)
+abbrev pub SearchStands : {M : Type 0} → (List ℕ → ℕ → Type 0) → (List ℕ → List ℕ → M → Type 0)
     → (M → List ℕ → M) → State M → List ℕ → Type 0
-Stands IsHead Means filled (states.Looking n phase) held = IsOpen held n phase
-Stands IsHead Means filled (states.Ended n) held = IsEnded held n
-Stands IsHead Means filled (states.Read n begun) held = IsRead IsHead Means filled held n begun
-Stands IsHead Means filled (states.Broken n) held = held ≡ []
+SearchStands IsHead Means filled (states.Looking n phase) held = IsOpen held n phase
+SearchStands IsHead Means filled (states.Ended n) held = IsEnded held n
+SearchStands IsHead Means filled (states.Read n begun) held =
+    IsRead IsHead Means filled held n begun
+SearchStands IsHead Means filled (states.Broken n) held = held ≡ []
 
 -- the look is over: the bytes that are held show no end of a head, or as many as a head may have
 abbrev pub IsLooked : {M : Type 0} → State M → List ℕ → Type 0
@@ -100,7 +101,7 @@ IsPast (states.Read n begun) held = ⊤
 IsPast (states.Broken n) held = ⊤
 
 -- A message was found at the front of the bytes held, and its head and body taken off.
-pub record Gives {M : Type 0} (Means : List ℕ → List ℕ → M → Type 0) (state : State M)
+pub record GivesMessage {M : Type 0} (Means : List ℕ → List ℕ → M → Type 0) (state : State M)
     (old new : List ℕ) (m : M) : Type 0 where
   pub text : List ℕ
   pub body : List ℕ
@@ -111,7 +112,7 @@ pub record Gives {M : Type 0} (Means : List ℕ → List ℕ → M → Type 0) (
 
 -- A head and the body that it announces were taken from the front of the bytes held. Each byte of
 -- the head was looked at twice at most, in so many looks of this call and those before it.
-pub record TakesFramed {M : Type 0} (Means : List ℕ → List ℕ → M → Type 0) (old new : Reading)
+pub record TakesFramed {M : Type 0} (Means : List ℕ → List ℕ → M → Type 0) (old new : CountedReader)
     (ticks : ℕ) (m : M) : Type 0 where
   pub text : List ℕ
   pub body : List ℕ
@@ -123,7 +124,7 @@ pub record TakesFramed {M : Type 0} (Means : List ℕ → List ℕ → M → Typ
 
 -- The looks are at most twice the bytes held, and twice those that a head may have. A broken reader
 -- holds none: there the bytes are those that it held when it broke, and it never looks again.
-pub record LooksWithin (old new : Reading) : Type 0 where
+pub record LooksWithin (old new : CountedReader) : Type 0 where
   pub held : IsFalse new.bytes.is_broken → new.looks ≤ 2 * min (length new.bytes.held) most_head
   pub broke : IsFalse old.bytes.is_broken → IsTrue new.bytes.is_broken
       → new.looks ≤ 2 * min (length old.bytes.held) most_head
@@ -132,7 +133,7 @@ pub record LooksWithin (old new : Reading) : Type 0 where
 -- What a reader answers, and what it holds then: each field is a clause of `next_counted`, but for
 -- `forgotten`, which is part of its `counted`.
 pub record IsNext {M : Type 0} (Spells : List ℕ → M → Type 0) (Waits : List ℕ → Type 0)
-    (old new : Reading) (found : Found M) : Type 0 where
+    (old new : CountedReader) (found : Found M) : Type 0 where
   pub message : IfFound found (TakesMessage Spells old.bytes new.bytes)
   pub forgotten : IfFound found (λ _. new.looks ≡ 0)
   pub more : found ≡ founds.More → new.bytes ≡ waiting old.bytes

@@ -1,5 +1,5 @@
 pub mod Framed
 pub mod HeadEnd
-pub mod Held
+pub mod ReaderState
 pub mod Looks
 pub mod Standings

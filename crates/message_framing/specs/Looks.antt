@@ -1,8 +1,8 @@
 -- What a look for the end of a head finds.
 use Rattle.std.specs.Prelude.{◌≡◌, ℕ, ◌<◌, ◌≤◌, ◌+◌, min, List, length, take, Some}
 use Rattle.asp_messages.specs.Head.{most_head}
-use Rattle.message_framing.specs.declared.head_end.Look.{Look}
-use Rattle.message_framing.specs.declared.head_end.Look.TheVariants.{Ended, Open}
+use Rattle.message_framing.specs.declared.head_end.HeadSearch.{HeadSearch}
+use Rattle.message_framing.specs.declared.head_end.HeadSearch.TheVariants.{Ended, Open}
 use Rattle.message_framing.specs.declared.head_end.Phase.{Phase}
 use Rattle.message_framing.specs.declared.head_end.Phase.TheVariants.{Blank}
 use Rattle.message_framing.specs.HeadEnd.{seen, EndsHead}
@@ -20,13 +20,13 @@ pub record IsEnded (bytes : List ℕ) (n : ℕ) : Type 0 where
   pub ends : EndsHead (take n bytes)
 
 -- from the first bytes on, by so many steps
-abbrev pub LooksOn : List ℕ → ℕ → Look → ℕ → Type 0
+abbrev pub LooksOn : List ℕ → ℕ → HeadSearch → ℕ → Type 0
 LooksOn bytes from (Ended n) steps = IsEnded bytes n × (n ≡ from + steps)
 LooksOn bytes from (Open n phase) steps = IsOpen bytes n phase × (n ≡ from + steps)
     × (n ≡ min (length bytes) most_head)
 
 -- some bytes on from the first bytes, by so many steps, and no further than to this place
-abbrev pub LooksOnce : List ℕ → ℕ → ℕ → Look → ℕ → Type 0
+abbrev pub LooksOnce : List ℕ → ℕ → ℕ → HeadSearch → ℕ → Type 0
 LooksOnce bytes from end (Ended n) steps = IsEnded bytes n × (n ≡ from + steps)
 LooksOnce bytes from end (Open n phase) steps = IsOpen bytes n phase × (n ≡ from + steps)
     × (from < n) × (n ≤ end)

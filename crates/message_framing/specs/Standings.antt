@@ -1,17 +1,17 @@
 -- How often a field stands, as the code keeps it.
 use Rattle.std.specs.Prelude.{ℕ, List}
-use Rattle.message_framing.specs.declared.fields.Standing.{Standing}
-use Rattle.message_framing.specs.declared.fields.Standing.TheVariants.{Absent, One, Twice}
+use Rattle.message_framing.specs.declared.fields.FieldOccurrence.{FieldOccurrence}
+use Rattle.message_framing.specs.declared.fields.FieldOccurrence.TheVariants.{Absent, One, Twice}
 use Rattle.asp_messages.specs.Fields as fields
 
 -- how often the field stands
-abbrev pub standing_of : Standing → fields.Occurrence
+abbrev pub standing_of : FieldOccurrence → fields.Occurrence
 standing_of Absent = fields.absent
 standing_of (One value) = fields.one value.now
 standing_of Twice = fields.twice
 
 -- with one value more
-abbrev pub one_more : fields.Occurrence → List ℕ → fields.Occurrence
-one_more fields.absent value = fields.one value
-one_more (fields.one other) value = fields.twice
-one_more fields.twice value = fields.twice
+abbrev pub one_more_value : fields.Occurrence → List ℕ → fields.Occurrence
+one_more_value fields.absent value = fields.one value
+one_more_value (fields.one other) value = fields.twice
+one_more_value fields.twice value = fields.twice

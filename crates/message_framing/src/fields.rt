@@ -2,7 +2,7 @@
 ghost use Rattle.std.specs.Prelude.{◌≡◌, length, map, All, codes};
 ghost use Rattle.httparse.specs.Spans.{IsHeaderWithin, header_bytes};
 ghost use Rattle.asp_messages.specs.Fields as fields;
-ghost use Rattle.message_framing.specs.Standings.{standing_of, one_more};
+ghost use Rattle.message_framing.specs.Standings.{standing_of, one_more_value};
 
 use asp_base::{read_number, same_name};
 use asp_messages::{MOST_BODY, MOST_COOKIE};
@@ -10,7 +10,7 @@ use httparse::spans::HeaderSpan;
 
 /// How often a field stands in a head, and its value where it stands once.
 #[derive(Clone, Copy, Debug)]
-pub enum Standing<'a> {
+pub enum FieldOccurrence<'a> {
     /// Never.
     Absent,
     /// Once, with this value.
@@ -19,21 +19,21 @@ pub enum Standing<'a> {
     Twice,
 }
 
-fn with_value<'a>(found: Standing<'a>, value: &'a [u8]) -> Standing<'a>
-    ensures { standing_of result ≡ one_more (standing_of found.entry) value.now }
+fn with_value<'a>(found: FieldOccurrence<'a>, value: &'a [u8]) -> FieldOccurrence<'a>
+    ensures { standing_of result ≡ one_more_value (standing_of found.entry) value.now }
 {
     match found {
-        Standing::Absent => Standing::One(value),
-        _ => Standing::Twice,
+        FieldOccurrence::Absent => FieldOccurrence::One(value),
+        _ => FieldOccurrence::Twice,
     }
 }
 
 /// How often the field of this name stands in the head that lies in `buf`.
-pub fn find_field<'a>(buf: &'a [u8], headers: &[HeaderSpan], name: &[u8]) -> Standing<'a>
+pub fn find_field<'a>(buf: &'a [u8], headers: &[HeaderSpan], name: &[u8]) -> FieldOccurrence<'a>
     requires { All (IsHeaderWithin (length buf.now)) headers.now }
     ensures { standing_of result ≡ fields.once (map (header_bytes buf.now) headers.now) name.now }
 {
-    let mut found = Standing::Absent;
+    let mut found = FieldOccurrence::Absent;
     for header in headers {
         let value = header.value.of(buf);
         if same_name(header.name.of(buf), name) {
@@ -45,13 +45,13 @@ pub fn find_field<'a>(buf: &'a [u8], headers: &[HeaderSpan], name: &[u8]) -> Sta
 
 /// The number of a field that may be absent: `default` then, and `None` where it stands twice, is
 /// no number, or is out of the range from `least` to `most`.
-pub fn number_or(default: u64, least: u64, most: u64, field: Standing) -> Option<u64>
+pub fn number_or(default: u64, least: u64, most: u64, field: FieldOccurrence) -> Option<u64>
     ensures { result ≡ fields.number_or default least most (standing_of field.entry) }
 {
     match field {
-        Standing::Absent => Some(default),
-        Standing::One(value) => at_least(least, read_number(value, most)),
-        Standing::Twice => None,
+        FieldOccurrence::Absent => Some(default),
+        FieldOccurrence::One(value) => at_least(least, read_number(value, most)),
+        FieldOccurrence::Twice => None,
     }
 }
 
@@ -64,11 +64,11 @@ fn at_least(least: u64, number: Option<u64>) -> Option<u64>
 
 /// The number of a field that is needed: `None` where it is absent, stands twice, is no number, or
 /// is above `most`.
-pub fn number_needed(most: u64, field: Standing) -> Option<u64>
+pub fn number_needed(most: u64, field: FieldOccurrence) -> Option<u64>
     ensures { result ≡ fields.number_needed most (standing_of field.entry) }
 {
     match field {
-        Standing::One(value) => read_number(value, most),
+        FieldOccurrence::One(value) => read_number(value, most),
         _ => None,
     }
 }

@@ -5,7 +5,7 @@ ghost use Rattle.message_framing.specs.HeadEnd.{after, seen};
 ghost use Rattle.message_framing.specs.Looks.{LooksOn, LooksOnce};
 ghost use Rattle.asp_messages.specs.Head.{most_head};
 
-use asp_base::{Held, Steps};
+use asp_base::{Held, StepCount};
 use std::sync::ledger::Ledger;
 
 /// The most bytes of a head, with the empty lines before it.
@@ -26,7 +26,7 @@ pub enum Phase {
 
 /// What a look has come to.
 #[derive(Clone, Copy, Debug)]
-pub enum Look {
+pub enum HeadSearch {
     /// The head ends after so many bytes.
     Ended(u64),
     /// It doesn't end in so many bytes, which are all or as many as a head may have.
@@ -75,7 +75,13 @@ fn after(phase: Phase, byte: u8) -> Option<Phase>
 }
 
 /// Looks on from place `at`: over the rest of a line with its line feed, or else at one byte.
-fn look_once<L: Ledger>(held: &Held, at: u64, end: u64, phase: Phase, steps: &mut Steps<L>) -> Look
+fn look_once<L: Ledger>(
+    held: &Held,
+    at: u64,
+    end: u64,
+    phase: Phase,
+    steps: &mut StepCount<L>,
+) -> HeadSearch
     requires at { at < end }
     requires end { end ≤ length held.now }
     requires room { end ≤ most_head }
@@ -85,19 +91,24 @@ fn look_once<L: Ledger>(held: &Held, at: u64, end: u64, phase: Phase, steps: &mu
 {
     if let Phase::Line = phase {
         return match held.find(b'\n', at, end, steps) {
-            Some(place) => Look::Open(place + 1, Phase::Feed),
-            None => Look::Open(end, Phase::Line),
+            Some(place) => HeadSearch::Open(place + 1, Phase::Feed),
+            None => HeadSearch::Open(end, Phase::Line),
         };
     }
     let byte = held.look(at, steps);
     match after(phase, byte) {
-        Some(next) => Look::Open(at + 1, next),
-        None => Look::Ended(at + 1),
+        Some(next) => HeadSearch::Open(at + 1, next),
+        None => HeadSearch::Ended(at + 1),
     }
 }
 
 /// Looks on for the end of a head from the place where the last look stopped, at each byte once.
-pub fn look_on<L: Ledger>(held: &Held, from: u64, phase: Phase, steps: &mut Steps<L>) -> Look
+pub fn look_on<L: Ledger>(
+    held: &Held,
+    from: u64,
+    phase: Phase,
+    steps: &mut StepCount<L>,
+) -> HeadSearch
     requires from { from ≤ length held.now }
     requires room { from ≤ most_head }
     requires seen { seen Phase.Blank (take from held.now) ≡ Some phase }
@@ -109,12 +120,12 @@ pub fn look_on<L: Ledger>(held: &Held, from: u64, phase: Phase, steps: &mut Step
     let mut phase = phase;
     while at < end {
         match look_once(held, at, end, phase, steps) {
-            Look::Ended(len) => return Look::Ended(len),
-            Look::Open(len, then) => {
+            HeadSearch::Ended(len) => return HeadSearch::Ended(len),
+            HeadSearch::Open(len, then) => {
                 at = len;
                 phase = then;
             }
         }
     }
-    Look::Open(at, phase)
+    HeadSearch::Open(at, phase)
 }

@@ -4,10 +4,10 @@
 
 mod fields;
 mod head_end;
-mod kind;
-mod reader;
+mod message_kind;
+mod message_reader;
 
-pub use fields::{Standing, body_length, find_field, lock_cookie, number_needed, number_or};
+pub use fields::{FieldOccurrence, body_length, find_field, lock_cookie, number_needed, number_or};
 pub use head_end::MOST_HEAD;
-pub use kind::{Begun, MessageKind};
-pub use reader::{Found, MOST_HELD, MessageReader};
+pub use message_kind::{Begun, MessageKind};
+pub use message_reader::{Found, MOST_HELD, MessageReader};

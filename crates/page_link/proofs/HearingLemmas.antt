@@ -4,7 +4,7 @@ use Rattle.std.specs.Prelude.{◌⊎◌, IsTrue}
 use Rattle.asp_base.specs.Outside.{IsAtEnd}
 use Rattle.asp_messages.specs.ReplySpelling.{SpellsReply}
 use Rattle.asp_messages.specs.Stream.{HasNoMessage, IsHopeless}
-use Rattle.message_framing.specs.Held.{Held}
+use Rattle.message_framing.specs.ReaderState.{ReaderState}
 use Rattle.page_link.specs.declared.exchange.Break.{Break}
 use Rattle.page_link.specs.declared.exchange.Break.TheVariants as breaks
 use Rattle.page_link.specs.Exchanges.{HearsNone, IsFed}
@@ -16,13 +16,15 @@ hopeless-none : (rest : List ℕ) → IsHopeless SpellsReply rest → HasNoMessa
 hopeless-none rest hopeless front back m e spells = hopeless [] front back m (append-nil rest
     ∙ e) spells
 
-hopeless_of : (old new : Held) (received : List ℕ) → IsFed old new received → IsTrue new.is_broken
+hopeless_of : (old new : ReaderState) (received : List ℕ) → IsFed old new received
+    → IsTrue new.is_broken
     ⊎ IsHopeless SpellsReply new.held → IsHopeless SpellsReply (old.held ++ received)
 hopeless_of old new received fed (inl broken) = absurd (let e : false ≡ true = sym fed.whole
     ∙ broken in cc)
 hopeless_of old new received fed (inr hopeless) = subst (IsHopeless SpellsReply) fed.held hopeless
 
-pub hears-broken : (link link' : Option (List ℕ × List ℕ)) (old new : Held) (received : List ℕ)
+pub hears-broken : (link link' : Option (List ℕ × List ℕ)) (old new : ReaderState)
+    (received : List ℕ)
     → Receives link link' received → IsFed old new received
     → IsTrue new.is_broken ⊎ IsHopeless SpellsReply new.held
     → HearsNone link link' old.held breaks.BadReply
@@ -30,7 +32,7 @@ hears-broken link link' old new received receives fed hopeless =
     let never = hopeless_of old new received fed hopeless in
     (received, receives, (hopeless-none (old.held ++ received) never, inl never))
 
-pub hears-none : (link link' link'' : Option (List ℕ × List ℕ)) (old new : Held)
+pub hears-none : (link link' link'' : Option (List ℕ × List ℕ)) (old new : ReaderState)
     (received piece : List ℕ) (broken : Break) → Receives link link' received
     → IsFed old new received
     → HasNoMessage SpellsReply new.held → Receives link' link'' piece

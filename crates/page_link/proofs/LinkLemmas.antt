@@ -1,6 +1,6 @@
 -- What follows one call of a link after another.
 use Rattle.std.proofs.Common.{◌≡◌, ℕ, zero, suc, ◌-◌, List, [], ◌∷◌, ◌++◌, length, take, Option, None, Some, refl, sym, ap, ◌∙◌, subst, arith, append_assoc, append-nil, length-append}
-use Rattle.page_link.specs.Links.{Sends, SendsFront, Receives, Exchanges, KeepsPauses}
+use Rattle.page_link.specs.Links.{LinkSends, SendsFront, Receives, Exchanges, KeepsPauses}
 use Rattle.page_link.specs.Visits.{IsFront}
 
 pub Receives-nil : (a : Option (List ℕ × List ℕ)) → Receives a a []
@@ -35,7 +35,7 @@ Exchanges-trans (Some x) (Some y) (Some z) s t xs ys p q = (
 )
 
 -- a text is sent, and then bytes are received
-pub Exchanges-of : (a b c : Option (List ℕ × List ℕ)) (s xs : List ℕ) → Sends a b s
+pub Exchanges-of : (a b c : Option (List ℕ × List ℕ)) (s xs : List ℕ) → LinkSends a b s
     → Receives b c xs → Exchanges a c s xs
 Exchanges-of None None None s xs p q = tt
 Exchanges-of None None (Some z) s xs p q = absurd q
@@ -44,7 +44,7 @@ Exchanges-of (Some x) None c s xs p q = absurd p
 Exchanges-of (Some x) (Some y) None s xs p q = absurd q
 Exchanges-of (Some x) (Some y) (Some z) s xs p q = (q.0 ∙ p.0, sym p.1 ∙ q.1)
 
-pub Exchanges-sent : (a b : Option (List ℕ × List ℕ)) (s : List ℕ) → Sends a b s
+pub Exchanges-sent : (a b : Option (List ℕ × List ℕ)) (s : List ℕ) → LinkSends a b s
     → Exchanges a b s []
 Exchanges-sent a b s p = Exchanges-of a b b s [] p (Receives-nil b)
 

@@ -11,9 +11,9 @@ use Rattle.visit_core.specs.declared.act.Heard.TheVariants.{Reply, Strange}
 use Rattle.visit_core.specs.declared.outcome.Outcome.{Outcome}
 use Rattle.visit_core.specs.declared.outcome.Outcome.TheVariants.{GaveUp, LinkFault}
 use Rattle.visit_core.specs.Acts.{Action, send, wait_until, run, over, IsToRun}
-use Rattle.visit_core.specs.Terms.{Terms}
-use Rattle.visit_core.specs.Rule.{Event, heard, ended, lost, send_ask, act_of, act_after, after_answer, after_loss, after_end, at_end, refused, ask_for, ending_ask, own_cookie, locked_answers, has_ended}
-use Rattle.page_link.specs.Turns.{has_lost}
+use Rattle.visit_core.specs.Terms.{VisitTerms}
+use Rattle.visit_core.specs.VisitRule.{Event, heard, ended, lost, send_ask, act_of, act_after, after_answer, after_loss, after_end, at_end, refused, ask_for, ending_ask, own_cookie, locked_answers, has_ended}
+use Rattle.page_link.specs.VisitTurns.{has_lost}
 
 -- ---- pasts in either order
 
@@ -87,7 +87,7 @@ unfolding is_fault
 refused-no_fault (Reply reply) = refl
 refused-no_fault (Strange status) = refl
 
-locked-no_fault : (terms : Terms) (used_up old early : Bool) (cookie age moment : ℕ)
+locked-no_fault : (terms : VisitTerms) (used_up old early : Bool) (cookie age moment : ℕ)
     → is_fault (if used_up
     then over (GaveUp cookie age)
     else (if old
@@ -99,7 +99,7 @@ locked-no_fault terms false true early cookie age moment = refl
 locked-no_fault terms false false true cookie age moment = refl
 locked-no_fault terms false false false cookie age moment = refl
 
-answer-no_fault : (terms : Terms) (count u : ℕ) (ask : Ask) (answer : Heard) (t : ℕ)
+answer-no_fault : (terms : VisitTerms) (count u : ℕ) (ask : Ask) (answer : Heard) (t : ℕ)
     → is_fault (after_answer terms count u ask answer t) ≡ false
 unfolding is_fault
 answer-no_fault terms count u Acquire (Reply (Found body minutes None first)) t = refl
@@ -127,12 +127,12 @@ end-no_fault (Reply Missing) = refl
 end-no_fault (Reply (Locked cookie age since)) = refl
 end-no_fault answer = refl
 
-at_end-no_fault : (terms : Terms) (ask : Option Ask) → is_fault (at_end terms ask) ≡ false
+at_end-no_fault : (terms : VisitTerms) (ask : Option Ask) → is_fault (at_end terms ask) ≡ false
 unfolding is_fault
 at_end-no_fault terms None = refl
 at_end-no_fault terms (Some ask) = refl
 
-act-no_fault : (terms : Terms) (past : List Event) (t : ℕ) → has_lost past ≡ false
+act-no_fault : (terms : VisitTerms) (past : List Event) (t : ℕ) → has_lost past ≡ false
     → is_fault (act_after terms past t) ≡ false
 unfolding is_fault
 act-no_fault terms [] t linked = refl
@@ -151,7 +151,7 @@ fault-is : is_fault (over LinkFault) ≡ true
 unfolding is_fault
 fault-is = refl
 
-pub no_fault : (terms : Terms) (past : List Event) (t : ℕ) → has_lost past ≡ false
+pub no_fault : (terms : VisitTerms) (past : List Event) (t : ℕ) → has_lost past ≡ false
     → act_of terms past t ≡ over LinkFault → ⊥
 no_fault terms past t linked acts =
     let tells = act-no_fault terms (reverse past) t (has_lost-reverse past ∙ linked) in
@@ -172,11 +172,11 @@ end-no_run (Reply Missing) runs = runs
 end-no_run (Reply (Locked cookie age since)) runs = runs
 end-no_run answer runs = runs
 
-at_end-no_run : (terms : Terms) (ask : Option Ask) → IsToRun (at_end terms ask) → ⊥
+at_end-no_run : (terms : VisitTerms) (ask : Option Ask) → IsToRun (at_end terms ask) → ⊥
 at_end-no_run terms None runs = runs
 at_end-no_run terms (Some ask) runs = runs
 
-act-no_run : (terms : Terms) (past : List Event) (t : ℕ) → has_ended past ≡ true
+act-no_run : (terms : VisitTerms) (past : List Event) (t : ℕ) → has_ended past ≡ true
     → IsToRun (act_after terms past t) → ⊥
 act-no_run terms [] t is_ended runs = cc
 act-no_run terms (heard u request answer ∷ past) t is_ended runs =
@@ -186,7 +186,7 @@ act-no_run terms (ended ending ∷ past) t is_ended runs =
 act-no_run terms (lost ∷ past) t is_ended runs = loss-no_run (act_after terms past t) runs
 
 -- a page that runs has not ended
-pub runs-unended : (terms : Terms) (past : List Event) (t : ℕ) → IsToRun (act_of terms past t)
+pub runs-unended : (terms : VisitTerms) (past : List Event) (t : ℕ) → IsToRun (act_of terms past t)
     → has_ended past ≡ false
 runs-unended terms past t runs = by_cases (has_ended past) refl
   where

@@ -5,7 +5,7 @@ use Rattle.std.proofs.lemmas.List.Concat.{flat_map-cons}
 use Rattle.std.proofs.lemmas.List.{reverse-append}
 use Rattle.asp_base.specs.Moments.{GivesMoment}
 use Rattle.asp_messages.specs.declared.request.Request.{Request}
-use Rattle.asp_messages.specs.ReplySpelling.{Answer, SpellsReply, reply, strange}
+use Rattle.asp_messages.specs.ReplySpelling.{StreamAnswer, SpellsReply, reply, strange}
 use Rattle.asp_messages.specs.RequestText.{request_text}
 use Rattle.asp_messages.specs.Stream.{Spelled}
 use Rattle.asp_messages.proofs.StreamLemmas.{Spelled-push, Spelled-append}
@@ -15,14 +15,14 @@ use Rattle.visit_core.specs.declared.act.Heard.{Heard}
 use Rattle.visit_core.specs.declared.outcome.Outcome.{Outcome}
 use Rattle.visit_core.specs.declared.outcome.Outcome.TheVariants.{Done, LostLocked, LostMissing, GaveUp, LinkFault, Refused}
 use Rattle.visit_core.specs.Acts.{Action, send, wait_until, over, IsToRun}
-use Rattle.visit_core.specs.Rule.{Event, heard, ended, lost, act_of, act_after, after_loss, has_ended}
+use Rattle.visit_core.specs.VisitRule.{Event, heard, ended, lost, act_of, act_after, after_loss, has_ended}
 use Rattle.visit_core.specs.Stages.{VisitState, HasPast, steps_left}
-use Rattle.visit_core.specs.Terms.{Terms, EndingFits, HeardFits}
+use Rattle.visit_core.specs.Terms.{VisitTerms, EndingFits, HeardFits}
 use Rattle.page_link.specs.declared.exchange.Break.TheVariants as breaks
 use Rattle.page_link.specs.declared.visit_end.VisitEnd.TheVariants as ends
-use Rattle.page_link.specs.Exchanges.{IsUnderway, MayTurn, Asks, AsksInVain, kept_ending}
+use Rattle.page_link.specs.Exchanges.{VisitIsUnderway, MayTurn, Asks, AsksInVain, kept_ending}
 use Rattle.page_link.specs.Links.{Exchanges, KeepsPauses}
-use Rattle.page_link.specs.Turns.{Turn, asked, paused, ran, heard_of, events_of, past_of, texts_of, answers_of, has_lost}
+use Rattle.page_link.specs.VisitTurns.{VisitTurn, asked, paused, ran, heard_of, events_of, past_of, texts_of, answers_of, has_lost}
 use Rattle.page_link.specs.Visits.{Scene, IsNew, IsVisit, SentOver, loss_of_outcome}
 use Rattle.page_link.proofs.LinkLemmas.{Exchanges-nil, KeepsPauses-nil, KeepsPauses-same}
 use Rattle.page_link.proofs.RuleLemmas.{has_ended-push, has_lost-append}
@@ -30,7 +30,7 @@ use Rattle.page_link.proofs.VisitLemmas.{goes_on, ends_so, GaveMoments-nil}
 
 -- ---- what is heard
 
-heard-fits : (front : List ℕ) (answer : Answer) → SpellsReply front answer
+heard-fits : (front : List ℕ) (answer : StreamAnswer) → SpellsReply front answer
     → HeardFits (heard_of answer)
 heard-fits front (reply r) spells = spelled_reply-fits front r spells
 heard-fits front (strange status) spells = tt
@@ -56,12 +56,12 @@ kept-is : (b : Bool) (page ending : Ending) → Some ending ≡ kept_ending b pa
 kept-is true page ending e = absurd cc
 kept-is false page ending e = cc
 
-no_loss-turn : (ending : Ending) (turn : Turn) → has_lost (events_of ending turn) ≡ false
+no_loss-turn : (ending : Ending) (turn : VisitTurn) → has_lost (events_of ending turn) ≡ false
 no_loss-turn ending (asked t request answer) = refl
 no_loss-turn ending (paused t until) = refl
 no_loss-turn ending (ran t) = refl
 
-no_loss : (ending : Ending) (turns : List Turn) → has_lost (past_of ending turns) ≡ false
+no_loss : (ending : Ending) (turns : List VisitTurn) → has_lost (past_of ending turns) ≡ false
 no_loss ending [] = refl
 no_loss ending (turn ∷ turns) =
     ap has_lost (flat_map-cons (events_of ending) turn turns)
@@ -70,7 +70,7 @@ no_loss ending (turn ∷ turns) =
     ∙ no_loss ending turns
 
 pub may_turn : (page : Ending) (before now : Scene) (kept : Option Ending) (held : List ℕ)
-    → IsUnderway page before now kept held → EndingFits page → MayTurn now.visit kept
+    → VisitIsUnderway page before now kept held → EndingFits page → MayTurn now.visit kept
 may_turn page before now kept held run fits = record {
   past = past_of page run.turns;
   stands = run.past;
@@ -85,7 +85,7 @@ may_turn page before now kept held run fits = record {
 module _ (page : Ending) (before : Scene) (visit visit' : VisitState)
     (link link' : Option (List ℕ × List ℕ)) (pauses pauses' : Option (List ℕ × ℕ))
     (clock clock' : Option (ℕ → ℕ)) (kept kept' : Option Ending) (held held' : List ℕ) (t : ℕ)
-    (run : IsUnderway page before
+    (run : VisitIsUnderway page before
     (record { visit = visit; link = link; pauses = pauses; clock = clock }) kept held)
     (moment : GivesMoment clock clock' t)
   where
@@ -101,12 +101,12 @@ module _ (page : Ending) (before : Scene) (visit visit' : VisitState)
         → ((past : List Event) → HasPast visit past → action ≡ act_of visit.terms past t)
         → act_of before.visit.terms (past_of page run.turns) t ≡ action
     by_rule action acts =
-        ap (λ (terms : Terms). act_of terms (past_of page run.turns) t) (sym run.terms)
+        ap (λ (terms : VisitTerms). act_of terms (past_of page run.turns) t) (sym run.terms)
         ∙ sym (acts (past_of page run.turns) run.past)
 
     pub went-paused : (until : ℕ) → link' ≡ link → KeepsPauses pauses pauses' (until ∷ [])
         → ((past : List Event) → HasPast visit past → wait_until until ≡ act_of visit.terms past t)
-        → IsUnderway page before
+        → VisitIsUnderway page before
         (record { visit = visit; link = link'; pauses = pauses'; clock = clock' }) kept held
     went-paused until same keeps acts =
         goes_on page before (record { visit = visit; link = link; pauses = pauses; clock = clock })
@@ -140,7 +140,7 @@ module _ (page : Ending) (before : Scene) (visit visit' : VisitState)
         → ((past : List Event) → HasPast visit past → HasPast visit' (past ++ ended ending ∷ []))
         → ((u w : ℕ) → steps_left visit' w < steps_left visit u)
         → ((past : List Event) → HasPast visit past → IsToRun (act_of visit.terms past t))
-        → IsUnderway page before
+        → VisitIsUnderway page before
         (record { visit = visit'; link = link; pauses = pauses; clock = clock' }) None held
     went-ran ending told terms past steps runs =
         let same = kept-is (has_ended (past_of page run.turns)) page ending (told ∙ run.kept_is) in
@@ -157,7 +157,8 @@ module _ (page : Ending) (before : Scene) (visit visit' : VisitState)
           past = subst (λ e. HasPast visit' (past_of page run.turns ++ ended e ∷ [])) (sym same)
               (past (past_of page run.turns) run.past);
           follows =
-              subst (λ (terms : Terms). IsToRun (act_of terms (past_of page run.turns) t)) run.terms
+              subst (λ (terms : VisitTerms). IsToRun
+              (act_of terms (past_of page run.turns) t)) run.terms
               (runs (past_of page run.turns) run.past);
           moment = moment;
           received = [];
@@ -182,7 +183,7 @@ module _ (page : Ending) (before : Scene) (visit visit' : VisitState)
         → HasPast visit' (past ++ heard t request h ∷ []))
         → ((w : ℕ) → steps_left visit' w < steps_left visit t)
         → ((past : List Event) → HasPast visit past → send request ≡ act_of visit.terms past t)
-        → IsUnderway page before
+        → VisitIsUnderway page before
         (record { visit = visit'; link = link'; pauses = pauses'; clock = clock' }) kept held'
     went-asked request h (received, exchanged, answered) still terms past steps acts =
         let bytes : List ℕ = run.received ++ received in
@@ -231,7 +232,7 @@ sent-over (GaveUp cookie age) action texts sent sound same = same
 sent-over LinkFault action texts sent sound same = absurd (sound refl)
 sent-over (Refused status) action texts sent sound same = same
 
-lost-acts : (terms : Terms) (past : List Event) (t : ℕ) (request : Request)
+lost-acts : (terms : VisitTerms) (past : List Event) (t : ℕ) (request : Request)
     → act_of terms past t ≡ send request → act_of terms (past ++ lost ∷ []) t ≡ over LinkFault
 lost-acts terms past t request acts =
     ap (λ (p : List Event). act_after terms p t) (reverse-append past (lost ∷ []))
@@ -240,7 +241,7 @@ lost-acts terms past t request acts =
 module _ (page : Ending) (before : Scene) (visit visit' : VisitState)
     (link link' : Option (List ℕ × List ℕ)) (pauses pauses' : Option (List ℕ × ℕ))
     (clock clock' : Option (ℕ → ℕ)) (kept : Option Ending) (held : List ℕ) (t : ℕ)
-    (run : IsUnderway page before
+    (run : VisitIsUnderway page before
     (record { visit = visit; link = link; pauses = pauses; clock = clock }) kept held)
     (still : pauses' ≡ pauses)
     (moment : GivesMoment clock clock' t)
@@ -250,7 +251,7 @@ module _ (page : Ending) (before : Scene) (visit visit' : VisitState)
         → action ≡ act_of visit.terms past t)
         → act_of before.visit.terms (past_of page run.turns) t ≡ action
     by_terms action acts =
-        ap (λ (terms : Terms). act_of terms (past_of page run.turns) t) (sym run.terms)
+        ap (λ (terms : VisitTerms). act_of terms (past_of page run.turns) t) (sym run.terms)
         ∙ sym (acts (past_of page run.turns) run.past)
 
     pub ended-over : (outcome : Outcome) → (outcome ≡ LinkFault → ⊥)
@@ -368,7 +369,7 @@ module _ (page : Ending) (before : Scene) (visit visit' : VisitState)
 pub not_begun : (page : Ending) (visit : VisitState) (link : Option (List ℕ × List ℕ))
     (pauses : Option (List ℕ × ℕ)) (clock : Option (ℕ → ℕ)) (held : List ℕ) → IsNew visit
     → held ≡ []
-    → IsUnderway page (record { visit = visit; link = link; pauses = pauses; clock = clock })
+    → VisitIsUnderway page (record { visit = visit; link = link; pauses = pauses; clock = clock })
     (record { visit = visit; link = link; pauses = pauses; clock = clock }) (Some page) held
 not_begun page visit link pauses clock held new none = record {
   turns = [];

@@ -7,23 +7,23 @@ use Rattle.std.proofs.lemmas.List.Concat.{flat_map-cons}
 use Rattle.std.proofs.lemmas.List.{map-append, reverse-append, get_or_append_left}
 use Rattle.std.proofs.Math.Seq.{get_or-append_seam}
 use Rattle.asp_base.specs.Moments.{GivesMoment}
-use Rattle.asp_messages.specs.ReplySpelling.{Answer, SpellsReply}
+use Rattle.asp_messages.specs.ReplySpelling.{StreamAnswer, SpellsReply}
 use Rattle.asp_messages.specs.Stream.{Spelled}
-use Rattle.asp_messages.proofs.StreamLemmas.{Spelled-append, IsStream-unique}
+use Rattle.asp_messages.proofs.StreamLemmas.{Spelled-append, IsMessageStream-unique}
 use Rattle.asp_messages.proofs.ReplyLemmas.{SpellsReply-unique}
 use Rattle.visit_core.specs.declared.act.Ending.{Ending}
 use Rattle.visit_core.specs.declared.outcome.Outcome.TheVariants.{LinkFault}
 use Rattle.visit_core.specs.Acts.{over}
-use Rattle.visit_core.specs.Rule.{Event, act_of, has_ended, IsLawful, EachFollows}
+use Rattle.visit_core.specs.VisitRule.{Event, act_of, has_ended, IsLawful, EachFollows}
 use Rattle.visit_core.specs.Stages.{HasPast, steps_left}
-use Rattle.visit_core.specs.Terms.{Terms, most_requests}
+use Rattle.visit_core.specs.Terms.{VisitTerms, most_requests}
 use Rattle.visit_core.proofs.ReleaseLemmas.{releases}
 use Rattle.page_link.specs.declared.visit_end.VisitEnd.{VisitEnd}
 use Rattle.page_link.specs.declared.visit_end.VisitEnd.TheVariants as ends
-use Rattle.page_link.specs.Exchanges.{IsUnderway, kept_ending}
+use Rattle.page_link.specs.Exchanges.{VisitIsUnderway, kept_ending}
 use Rattle.page_link.specs.Links.{Exchanges, KeepsPauses}
-use Rattle.page_link.specs.Turns.{Turn, moment_of, events_of, text_of, answer_of, pause_of, past_of, texts_of, answers_of, pauses_of, GaveMoments}
-use Rattle.page_link.specs.Visits.{Scene, Follows, AllFollow, IsVisit, ForcesOldLocks, IsBadRest, AreAllReplies, SentAs, loss_of, IfOver, TellsReplies, EndsWell}
+use Rattle.page_link.specs.VisitTurns.{VisitTurn, moment_of, events_of, text_of, answer_heard, pause_of, past_of, texts_of, answers_of, pauses_of, GaveMoments}
+use Rattle.page_link.specs.Visits.{Scene, FollowsVisitRule, AllFollow, IsVisit, ForcesOldLocks, IsBadRest, AreAllReplies, SentAs, loss_of, IfVisitOver, TellsReplies, EndsWell}
 use Rattle.page_link.proofs.LinkLemmas.{Exchanges-trans, KeepsPauses-trans}
 
 -- ---- moments
@@ -54,17 +54,17 @@ GaveMoments-push (Some x) (Some y) (Some z) moments t p q = (
 
 -- ---- one turn more
 
-flat_map-push : {A : Type 0} (f : Turn → List A) (turns : List Turn) (turn : Turn)
+flat_map-push : {A : Type 0} (f : VisitTurn → List A) (turns : List VisitTurn) (turn : VisitTurn)
     → flat_map f (turns ++ turn ∷ []) ≡ flat_map f turns ++ f turn
 flat_map-push f turns turn = flat_map-append f turns (turn ∷ [])
     ∙ ap (λ l. flat_map f turns ++ l) (append-nil (f turn))
 
-AllFollow-push : (terms : Terms) (ending : Ending) (past : List Event) (turns : List Turn)
-    (turn : Turn) → AllFollow terms ending past turns
-    → Follows terms (past ++ past_of ending turns) turn
+AllFollow-push : (terms : VisitTerms) (ending : Ending) (past : List Event) (turns : List VisitTurn)
+    (turn : VisitTurn) → AllFollow terms ending past turns
+    → FollowsVisitRule terms (past ++ past_of ending turns) turn
     → AllFollow terms ending past (turns ++ turn ∷ [])
 AllFollow-push terms ending past [] turn all follows =
-    (subst (λ p. Follows terms p turn) (append-nil past) follows, tt)
+    (subst (λ p. FollowsVisitRule terms p turn) (append-nil past) follows, tt)
 AllFollow-push terms ending past (x ∷ xs) turn all follows =
     let behind :
     past ++ past_of ending (x ∷ xs) ≡ (past ++ events_of ending x) ++ past_of ending xs =
@@ -72,35 +72,36 @@ AllFollow-push terms ending past (x ∷ xs) turn all follows =
     ∙ sym (append_assoc past (events_of ending x) (past_of ending xs)) in (
       all.0,
       AllFollow-push terms ending (past ++ events_of ending x) xs turn all.1
-          (subst (λ p. Follows terms p turn) behind follows),
+          (subst (λ p. FollowsVisitRule terms p turn) behind follows),
     )
 
 -- what a turn does to a visit and its surroundings
 pub record Goes (ending : Ending) (before now now' : Scene) (kept kept' : Option Ending)
-    (held held' : List ℕ) (run : IsUnderway ending before now kept held) (turn : Turn) : Type 0
+    (held held' : List ℕ) (run : VisitIsUnderway ending before now kept held)
+    (turn : VisitTurn) : Type 0
   where
     pub terms : now'.visit.terms ≡ now.visit.terms
     pub past : HasPast now'.visit (past_of ending run.turns ++ events_of ending turn)
-    pub follows : Follows before.visit.terms (past_of ending run.turns) turn
+    pub follows : FollowsVisitRule before.visit.terms (past_of ending run.turns) turn
     pub moment : GivesMoment now.clock now'.clock (moment_of turn)
     pub received : List ℕ
     pub exchanged : Exchanges now.link now'.link (text_of turn) received
     pub pauses : KeepsPauses now.pauses now'.pauses (pause_of turn)
     pub answers : Spelled SpellsReply (run.received ++ received)
-        (answers_of run.turns ++ answer_of turn) held'
+        (answers_of run.turns ++ answer_heard turn) held'
     pub steps : (t : ℕ) → (u : ℕ)
-        × (length (answer_of turn) + steps_left now'.visit t ≤ steps_left now.visit u)
+        × (length (answer_heard turn) + steps_left now'.visit t ≤ steps_left now.visit u)
     pub kept_is : kept'
         ≡ kept_ending (has_ended (past_of ending run.turns ++ events_of ending turn)) ending
 
 pub goes_on : (ending : Ending) (before now now' : Scene) (kept kept' : Option Ending)
-    (held held' : List ℕ) (run : IsUnderway ending before now kept held) (turn : Turn)
+    (held held' : List ℕ) (run : VisitIsUnderway ending before now kept held) (turn : VisitTurn)
     → Goes ending before now now' kept kept' held held' run turn
-    → IsUnderway ending before now' kept' held'
+    → VisitIsUnderway ending before now' kept' held'
 goes_on ending before now now' kept kept' held held' run turn goes =
     let pasts = sym (flat_map-push (events_of ending) run.turns turn) in
     let texts = sym (flat_map-push text_of run.turns turn) in
-    let answers = sym (flat_map-push answer_of run.turns turn) in
+    let answers = sym (flat_map-push answer_heard run.turns turn) in
     let pauses = sym (flat_map-push pause_of run.turns turn) in
     record {
       turns = run.turns ++ turn ∷ [];
@@ -123,20 +124,20 @@ goes_on ending before now now' kept kept' held held' run turn goes =
           goes.answers;
       steps = λ t. let more = goes.steps t in
           let size : length (answers_of (run.turns ++ turn ∷ [])) ≡ length
-          (answers_of run.turns) + length (answer_of turn) = ap length (sym answers)
-          ∙ length-append (answers_of run.turns) (answer_of turn) in
+          (answers_of run.turns) + length (answer_heard turn) = ap length (sym answers)
+          ∙ length-append (answers_of run.turns) (answer_heard turn) in
           omega (arith, size, more.1, run.steps more.0);
       kept_is = goes.kept_is ∙ ap (λ p. kept_ending (has_ended p) ending) pasts;
     }
 
 -- ---- the forced release
 
-EachFollows-behind : (terms : Terms) (xs ys : List Event) → EachFollows terms (xs ++ ys)
+EachFollows-behind : (terms : VisitTerms) (xs ys : List Event) → EachFollows terms (xs ++ ys)
     → EachFollows terms ys
 EachFollows-behind terms [] ys follows = follows
 EachFollows-behind terms (x ∷ xs) ys follows = EachFollows-behind terms xs ys follows.1
 
-forces : (terms : Terms) (past : List Event) → IsLawful terms past → ForcesOldLocks terms past
+forces : (terms : VisitTerms) (past : List Event) → IsLawful terms past → ForcesOldLocks terms past
 forces terms past lawful earlier later t cookie is unended acts =
     let turned = ap reverse is ∙ reverse-append earlier later in
     let front = EachFollows-behind terms (reverse later) (reverse earlier)
@@ -146,7 +147,7 @@ forces terms past lawful earlier later t cookie is unended acts =
 -- ---- the end
 
 all-replies : (before after : Option (List ℕ × List ℕ)) (sent received rest : List ℕ)
-    (answers : List Answer) → Exchanges before after sent received
+    (answers : List StreamAnswer) → Exchanges before after sent received
     → Spelled SpellsReply received answers rest → IsBadRest after rest
     → AreAllReplies before answers
 all-replies None after sent received rest answers p spelled bad = tt
@@ -170,7 +171,7 @@ all-replies (Some x) (Some y) sent received rest answers p spelled (none, inr en
 
 -- what ends a visit at a turn
 pub record Ends (ending : Ending) (before now after : Scene) (kept : Option Ending) (held : List ℕ)
-    (run : IsUnderway ending before now kept held) (end : VisitEnd) : Type 0 where
+    (run : VisitIsUnderway ending before now kept held) (end : VisitEnd) : Type 0 where
   pub last : ℕ
   pub part : List ℕ
   pub received : List ℕ
@@ -182,12 +183,12 @@ pub record Ends (ending : Ending) (before now after : Scene) (kept : Option Endi
   pub bad : end ≡ ends.BadReply → IsBadRest after.link (held ++ received)
   pub sent_as : SentAs end (act_of before.visit.terms (past_of ending run.turns) last)
       (texts_of run.turns) (texts_of run.turns ++ part)
-  pub over_is : IfOver end
+  pub over_is : IfVisitOver end
       (λ outcome. act_of before.visit.terms (past_of ending run.turns ++ loss_of end) last ≡ over
       outcome)
 
 pub ends_so : (ending : Ending) (before now after : Scene) (kept : Option Ending) (held : List ℕ)
-    (run : IsUnderway ending before now kept held) (end : VisitEnd)
+    (run : VisitIsUnderway ending before now kept held) (end : VisitEnd)
     → Ends ending before now after kept held run end → IsVisit ending before after end
 ends_so ending before now after kept held run end ended =
     let exchanged = Exchanges-trans before.link now.link after.link (texts_of run.turns) ended.part
@@ -196,7 +197,7 @@ ends_so ending before now after kept held run end ended =
     run.answers in
     let terms = ended.terms ∙ run.terms in
     let lawful =
-    subst (λ (terms : Terms). IsLawful terms (past_of ending run.turns ++ loss_of end)) terms
+    subst (λ (terms : VisitTerms). IsLawful terms (past_of ending run.turns ++ loss_of end)) terms
     ended.past.lawful in
     record {
       turns = run.turns;
@@ -240,7 +241,8 @@ complete ending before after ends.BadReply visit tells sound =
     enough None all tells = tells
     enough (Some told) (rest, stream) (answers, other, others, many) =
         let same =
-        (IsStream-unique SpellsReply SpellsReply-unique told.1 (answers_of visit.turns) answers
+        (IsMessageStream-unique SpellsReply SpellsReply-unique told.1
+        (answers_of visit.turns) answers
         rest other stream others).0 in
         let size = ap length same in
         omega (arith, size, many, visit.few)

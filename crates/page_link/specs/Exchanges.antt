@@ -1,25 +1,25 @@
 -- Inside a visit: one request with its answer, and where a visit stands between two turns.
 use Rattle.std.specs.Prelude.{◌≡◌, ℕ, ◌+◌, ◌≤◌, List, [], ◌++◌, length, map, Option, Some, None, Bool, true, false, IfSome, IsSome, ⊤}
-use Rattle.asp_messages.specs.ReplySpelling.{Answer, SpellsReply}
+use Rattle.asp_messages.specs.ReplySpelling.{StreamAnswer, SpellsReply}
 use Rattle.asp_messages.specs.Stream.{Spelled}
-use Rattle.message_framing.specs.Held.{Held}
+use Rattle.message_framing.specs.ReaderState.{ReaderState}
 use Rattle.visit_core.specs.declared.act.Ending.{Ending}
 use Rattle.visit_core.specs.declared.act.Heard.{Heard}
-use Rattle.visit_core.specs.Rule.{Event, has_ended}
+use Rattle.visit_core.specs.VisitRule.{Event, has_ended}
 use Rattle.visit_core.specs.Stages.{VisitState, HasPast, steps_left}
 use Rattle.visit_core.specs.Terms.{EndingFits, most_requests}
 use Rattle.page_link.specs.declared.visit_end.VisitEnd.{VisitEnd}
 use Rattle.page_link.specs.declared.exchange.Break.{Break}
 use Rattle.page_link.specs.declared.exchange.Break.TheVariants as breaks
 use Rattle.page_link.specs.Links.{Exchanges, Receives, KeepsPauses}
-use Rattle.page_link.specs.Turns.{Turn, moment_of, heard_of, has_lost, past_of, texts_of, answers_of, pauses_of, GaveMoments}
+use Rattle.page_link.specs.VisitTurns.{VisitTurn, moment_of, heard_of, has_lost, past_of, texts_of, answers_of, pauses_of, GaveMoments}
 use Rattle.page_link.specs.Visits.{Scene, AllFollow, IsVisit, IsBadRest, IsFront, IsWhole}
 
 -- ---- one request
 
 -- The bytes held and then received begin with the answer, and the rest is held now.
-pub record IsAnswered (old new received : List ℕ) (heard : Heard) : Type 0 where
-  pub answer : Answer
+pub record IsHeard (old new received : List ℕ) (heard : Heard) : Type 0 where
+  pub answer : StreamAnswer
   pub front : List ℕ
   pub heard_is : heard ≡ heard_of answer
   pub spells : SpellsReply front answer
@@ -41,7 +41,7 @@ IsSentPart breaks.NoMemory text part = IsFront text part
 abbrev pub Hears : Option (List ℕ × List ℕ) → Option (List ℕ × List ℕ) → List ℕ → List ℕ → Heard
     → Type 0
 Hears link link' old new heard = (received : List ℕ) × Receives link link' received
-    × IsAnswered old new received heard
+    × IsHeard old new received heard
 
 -- bytes were received, and no answer came
 abbrev pub HearsNone : Option (List ℕ × List ℕ) → Option (List ℕ × List ℕ) → List ℕ → Break → Type 0
@@ -52,7 +52,7 @@ HearsNone link link' old break = (received : List ℕ) × Receives link link' re
 abbrev pub Asks : Option (List ℕ × List ℕ) → Option (List ℕ × List ℕ) → List ℕ → List ℕ → List ℕ
     → Heard → Type 0
 Asks link link' text old new heard = (received : List ℕ) × Exchanges link link' text received
-    × IsAnswered old new received heard
+    × IsHeard old new received heard
 
 -- a text was sent, maybe in part, and not answered
 abbrev pub AsksInVain : Option (List ℕ × List ℕ) → Option (List ℕ × List ℕ) → List ℕ → List ℕ
@@ -62,7 +62,7 @@ AsksInVain link link' text old break = (part : List ℕ) × (received : List ℕ
     × Exchanges link link' part received × IsUnanswered break link' old received
 
 -- the reader was fed these bytes since, and is not broken
-pub record IsFed (old new : Held) (received : List ℕ) : Type 0 where
+pub record IsFed (old new : ReaderState) (received : List ℕ) : Type 0 where
   pub held : new.held ≡ old.held ++ received
   pub whole : new.is_broken ≡ false
 
@@ -83,9 +83,9 @@ pub record MayTurn (visit : VisitState) (kept : Option Ending) : Type 0 where
 
 -- A visit with this ending has made turns up to now; the ending is kept until the page ended, and
 -- these bytes are held, of those received.
-pub record IsUnderway (ending : Ending) (before now : Scene) (kept : Option Ending)
+pub record VisitIsUnderway (ending : Ending) (before now : Scene) (kept : Option Ending)
     (held : List ℕ) : Type 0 where
-  pub turns : List Turn
+  pub turns : List VisitTurn
   pub received : List ℕ
   pub terms : now.visit.terms ≡ before.visit.terms
   pub follow : AllFollow before.visit.terms ending [] turns
@@ -102,9 +102,9 @@ pub record IsUnderway (ending : Ending) (before now : Scene) (kept : Option Endi
 -- the new one
 abbrev pub StaysUnderway : Scene → Option Ending → List ℕ → Scene → Option Ending → List ℕ → Type 0
 StaysUnderway old kept held new kept' held' = (ending : Ending) (before : Scene)
-    → IsUnderway ending before old kept held → IsUnderway ending before new kept' held'
+    → VisitIsUnderway ending before old kept held → VisitIsUnderway ending before new kept' held'
 
 -- every visit that was underway in the old scene came to this end
 abbrev pub ComesToEnd : Scene → Option Ending → List ℕ → Scene → VisitEnd → Type 0
 ComesToEnd old kept held new end = (ending : Ending) (before : Scene)
-    → IsUnderway ending before old kept held → IsVisit ending before new end
+    → VisitIsUnderway ending before old kept held → IsVisit ending before new end

@@ -1,5 +1,5 @@
 pub mod Exchanges
-pub mod InMemory
+pub mod LinkInMemory
 pub mod Links
-pub mod Turns
+pub mod VisitTurns
 pub mod Visits

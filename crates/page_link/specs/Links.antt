@@ -4,15 +4,15 @@ use Rattle.std.specs.Prelude.{◌≡◌, ℕ, ◌-◌, ◌≤◌, List, ◌++◌
 use Rattle.asp_base.specs.Outside.{IsAtEnd}
 
 -- these bytes are sent: the link tells nothing, or they go behind those sent
-abbrev pub Sends : Option (List ℕ × List ℕ) → Option (List ℕ × List ℕ) → List ℕ → Type 0
-Sends None None bytes = ⊤
-Sends None (Some new) bytes = ⊥
-Sends (Some old) None bytes = ⊥
-Sends (Some old) (Some new) bytes = (new.0 ≡ old.0 ++ bytes) × (new.1 ≡ old.1)
+abbrev pub LinkSends : Option (List ℕ × List ℕ) → Option (List ℕ × List ℕ) → List ℕ → Type 0
+LinkSends None None bytes = ⊤
+LinkSends None (Some new) bytes = ⊥
+LinkSends (Some old) None bytes = ⊥
+LinkSends (Some old) (Some new) bytes = (new.0 ≡ old.0 ++ bytes) × (new.1 ≡ old.1)
 
 -- a front of the piece is sent
 abbrev pub SendsFront : Option (List ℕ × List ℕ) → Option (List ℕ × List ℕ) → List ℕ → Type 0
-SendsFront old new piece = (n : ℕ) × (n ≤ length piece) × Sends old new (take n piece)
+SendsFront old new piece = (n : ℕ) × (n ≤ length piece) × LinkSends old new (take n piece)
 
 -- these bytes are received: the link tells nothing, or they come from the front of those still to
 -- be received

@@ -3,20 +3,20 @@ use Rattle.std.specs.Prelude.{◌≡◌, ◌≢◌, ◌⊎◌, ℕ, ◌≤◌, L
 use Rattle.asp_base.specs.Outside.{IsAtEnd}
 use Rattle.asp_messages.specs.declared.request.Request.{Request}
 use Rattle.asp_messages.specs.declared.request.Ask.TheVariants.{Release}
-use Rattle.asp_messages.specs.ReplySpelling.{Answer, SpellsReply}
+use Rattle.asp_messages.specs.ReplySpelling.{StreamAnswer, SpellsReply}
 use Rattle.asp_messages.specs.RequestText.{request_text}
-use Rattle.asp_messages.specs.Stream.{Spelled, IsStream, IsHopeless, HasNoMessage}
+use Rattle.asp_messages.specs.Stream.{Spelled, IsMessageStream, IsHopeless, HasNoMessage}
 use Rattle.visit_core.specs.declared.act.Ending.{Ending}
 use Rattle.visit_core.specs.declared.outcome.Outcome.{Outcome}
 use Rattle.visit_core.specs.declared.outcome.Outcome.TheVariants.{LinkFault}
 use Rattle.visit_core.specs.Acts.{Action, send, wait_until, over, IsToRun}
-use Rattle.visit_core.specs.Rule.{Event, lost, act_of, send_ask, has_ended, IsLawful, MeetsOldLock}
+use Rattle.visit_core.specs.VisitRule.{Event, lost, act_of, send_ask, has_ended, IsLawful, MeetsOldLock}
 use Rattle.visit_core.specs.Stages.{VisitState, HasPast, steps_left}
-use Rattle.visit_core.specs.Terms.{Terms, most_requests}
+use Rattle.visit_core.specs.Terms.{VisitTerms, most_requests}
 use Rattle.page_link.specs.declared.visit_end.VisitEnd.{VisitEnd}
 use Rattle.page_link.specs.declared.visit_end.VisitEnd.TheVariants.{Over, BadReply, NoMemory}
 use Rattle.page_link.specs.Links.{Exchanges, KeepsPauses}
-use Rattle.page_link.specs.Turns.{Turn, asked, paused, ran, events_of, moment_of, past_of, texts_of, answers_of, pauses_of, GaveMoments}
+use Rattle.page_link.specs.VisitTurns.{VisitTurn, asked, paused, ran, events_of, moment_of, past_of, texts_of, answers_of, pauses_of, GaveMoments}
 
 -- A visit at one time, with what its link tells, of its bytes and of its pauses, and the moments
 -- that its clock has still to give.
@@ -40,16 +40,16 @@ pub record IsNew (visit : VisitState) : Type 0 where
 -- ---- turns
 
 -- the turn does what the rule says after this past
-abbrev pub Follows : Terms → List Event → Turn → Type 0
-Follows terms past (asked t request answer) = act_of terms past t ≡ send request
-Follows terms past (paused t until) = act_of terms past t ≡ wait_until until
-Follows terms past (ran t) = IsToRun (act_of terms past t)
+abbrev pub FollowsVisitRule : VisitTerms → List Event → VisitTurn → Type 0
+FollowsVisitRule terms past (asked t request answer) = act_of terms past t ≡ send request
+FollowsVisitRule terms past (paused t until) = act_of terms past t ≡ wait_until until
+FollowsVisitRule terms past (ran t) = IsToRun (act_of terms past t)
 
 -- each turn does so after the past that those before it lead to
-abbrev pub AllFollow : Terms → Ending → List Event → List Turn → Type 0
+abbrev pub AllFollow : VisitTerms → Ending → List Event → List VisitTurn → Type 0
 AllFollow terms ending past [] = ⊤
 AllFollow terms ending past (turn ∷ turns) =
-    Follows terms past turn × AllFollow terms ending (past ++ events_of ending turn) turns
+    FollowsVisitRule terms past turn × AllFollow terms ending (past ++ events_of ending turn) turns
 
 -- ---- what is sent
 
@@ -90,14 +90,14 @@ loss_of BadReply = []
 loss_of NoMemory = []
 
 -- a fact of the outcome, where the visit is over
-abbrev pub IfOver : VisitEnd → (Outcome → Type 0) → Type 0
-IfOver (Over outcome) P = P outcome
-IfOver BadReply P = ⊤
-IfOver NoMemory P = ⊤
+abbrev pub IfVisitOver : VisitEnd → (Outcome → Type 0) → Type 0
+IfVisitOver (Over outcome) P = P outcome
+IfVisitOver BadReply P = ⊤
+IfVisitOver NoMemory P = ⊤
 
 -- At each place of the past, before the page's end, at which a release is sent, the visit had met
 -- that lock by its own ask, and it was older than the page may run: a release by force.
-abbrev pub ForcesOldLocks : Terms → List Event → Type 0
+abbrev pub ForcesOldLocks : VisitTerms → List Event → Type 0
 ForcesOldLocks terms past = (earlier later : List Event) (t cookie : ℕ) → past ≡ earlier ++ later
     → has_ended earlier ≡ false → act_of terms earlier t ≡ send_ask terms (Release cookie)
     → MeetsOldLock terms earlier cookie
@@ -110,15 +110,16 @@ abbrev pub IsBadRest : Option (List ℕ × List ℕ) → List ℕ → Type 0
 IsBadRest link rest = HasNoMessage SpellsReply rest × (IsHopeless SpellsReply rest ⊎ IsAtEnd link)
 
 -- where the link tells, these are all replies that were to be received
-abbrev pub AreAllReplies : Option (List ℕ × List ℕ) → List Answer → Type 0
+abbrev pub AreAllReplies : Option (List ℕ × List ℕ) → List StreamAnswer → Type 0
 AreAllReplies None answers = ⊤
-AreAllReplies (Some told) answers = (rest : List ℕ) × IsStream SpellsReply told.1 answers rest
+AreAllReplies (Some told) answers =
+    (rest : List ℕ) × IsMessageStream SpellsReply told.1 answers rest
 
 -- the link tells, and at least so many replies are to be received
 abbrev pub TellsReplies : Option (List ℕ × List ℕ) → ℕ → Type 0
 TellsReplies None count = ⊥
-TellsReplies (Some told) count = (answers : List Answer) × (rest : List ℕ)
-    × IsStream SpellsReply told.1 answers rest × (count ≤ length answers)
+TellsReplies (Some told) count = (answers : List StreamAnswer) × (rest : List ℕ)
+    × IsMessageStream SpellsReply told.1 answers rest × (count ≤ length answers)
 
 -- ---- a visit
 
@@ -127,7 +128,7 @@ TellsReplies (Some told) count = (answers : List Answer) × (rest : List ℕ)
 -- received, of which the latter are the answers and a rest. The link was told to pause once for
 -- each turn that waited, until that turn's moment, and never else.
 pub record IsVisit (ending : Ending) (before after : Scene) (end : VisitEnd) : Type 0 where
-  pub turns : List Turn
+  pub turns : List VisitTurn
   pub last : ℕ
   pub sent : List ℕ
   pub received : List ℕ
@@ -136,7 +137,7 @@ pub record IsVisit (ending : Ending) (before after : Scene) (end : VisitEnd) : T
   pub follow : AllFollow before.visit.terms ending [] turns
   pub past : HasPast after.visit (past_of ending turns ++ loss_of end)
   pub lawful : IsLawful before.visit.terms (past_of ending turns ++ loss_of end)
-  pub outcome : IfOver end (λ outcome.
+  pub outcome : IfVisitOver end (λ outcome.
       act_of before.visit.terms (past_of ending turns ++ loss_of end) last ≡ over outcome)
   pub moments : GaveMoments before.clock after.clock (map moment_of turns ++ last ∷ [])
   pub exchanged : Exchanges before.link after.link sent received

@@ -1,6 +1,6 @@
 //! What a visit keeps from request to request.
 ghost use Rattle.std.specs.Prelude.{◌≡◌};
-ghost use Rattle.message_framing.specs.Held.{empty_reader};
+ghost use Rattle.message_framing.specs.ReaderState.{empty_reader};
 
 use reply_reader::ReplyReader;
 use std::alloc::Global;

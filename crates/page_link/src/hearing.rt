@@ -2,7 +2,7 @@
 ghost use Rattle.std.specs.Prelude.{◌≡◌, ◌≤◌, ◌<◌, ℕ, List, length, [], false, IsTrue, IfOk, OnOk, OnErr, IfErr};
 ghost use Rattle.asp_base.specs.Causes.{Rose};
 ghost use Rattle.asp_base.specs.Outside.{IsAtEnd};
-ghost use Rattle.message_framing.specs.Held.{fed, most_held};
+ghost use Rattle.message_framing.specs.ReaderState.{fed, most_held};
 ghost use Rattle.page_link.specs.Links.{Receives};
 ghost use Rattle.page_link.specs.Exchanges.{Hears, HearsNone};
 

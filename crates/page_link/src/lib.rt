@@ -8,8 +8,8 @@ mod hearing;
 mod link;
 mod memory_link;
 mod tcp_link;
-mod turn;
 mod visit_end;
+mod visit_turn;
 mod whole_visit;
 
 pub use link::Link;

@@ -1,7 +1,7 @@
 //! A link to the state server.
 ghost use Rattle.std.specs.Prelude.{◌≡◌, ℕ, ◌<◌, ◌≤◌, List, Option, [], ◌∷◌, length, MatchResult};
 ghost use Rattle.asp_base.specs.Causes.{HasCause};
-ghost use Rattle.page_link.specs.Links.{IsReceipt, KeepsPauses, Sends, SendsFront};
+ghost use Rattle.page_link.specs.Links.{IsReceipt, KeepsPauses, LinkSends, SendsFront};
 
 use asp_base::Failed;
 use std::rt::Clock as HostTime;
@@ -22,7 +22,7 @@ pub trait Link {
     /// rose.
     fn send<R>(&mut self, rt: &R, piece: &[u8]) -> Result<(), Failed>
         ensures sends { MatchResult result
-            (λ _. Sends (told self.old) (told self.new) piece.now)
+            (λ _. LinkSends (told self.old) (told self.new) piece.now)
             (λ _. SendsFront (told self.old) (told self.new) piece.now) }
         ensures pauses { pauses self.new ≡ pauses self.old }
         ensures cause { HasCause (faults self.old) (faults self.new) result };

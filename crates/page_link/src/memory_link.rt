@@ -1,9 +1,9 @@
 //! A link in memory, which fails where it is told to.
 ghost use Rattle.std.specs.Prelude.{◌≡◌, ◌<◌, ◌≤◌, ◌↔◌, ◌+◌, ◌-◌, [], ◌∷◌, ◌++◌, ℕ, List, Option, length, take, Some, MatchResult, IfOk, IsErr, Contains};
 ghost use Rattle.asp_base.specs.Causes.{HasCause};
-ghost use Rattle.asp_base.specs.InMemory.{one_more};
-ghost use Rattle.page_link.specs.InMemory.{receipt_count, FailsSend};
-ghost use Rattle.page_link.specs.Links.{IsReceipt, KeepsPauses, Sends, SendsFront};
+ghost use Rattle.asp_base.specs.InMemory.{counted_once_more};
+ghost use Rattle.page_link.specs.LinkInMemory.{receipt_count, FailsSend};
+ghost use Rattle.page_link.specs.Links.{IsReceipt, KeepsPauses, LinkSends, SendsFront};
 
 use crate::Link;
 use asp_base::{Bytes, Failed, MemorySource, NoMemory, Source};
@@ -28,7 +28,7 @@ pub struct MemoryLink {
 
 impl Model for MemoryLink {
     ghost use Rattle.std.specs.Prelude.{◌≤◌, ◌+◌, vec_len, vec_capacity};
-    ghost use Rattle.page_link.specs.InMemory.{LinkInMemory};
+    ghost use Rattle.page_link.specs.LinkInMemory.{LinkInMemory};
 
     ghost Value = { LinkInMemory };
 
@@ -120,7 +120,7 @@ impl MemoryLink {
     }
 
     fn failed(&mut self) -> Failed
-        ensures { self.new ≡ record self.old { faults = one_more self.old.faults } }
+        ensures { self.new ≡ record self.old { faults = counted_once_more self.old.faults } }
     {
         self.faults = self.faults.saturating_add(1);
         Failed
@@ -136,7 +136,7 @@ impl Link for MemoryLink {
 
     fn send<R>(&mut self, _rt: &R, piece: &[u8]) -> Result<(), Failed>
         ensures sends { MatchResult result
-            (λ _. Sends (Some (self.old.sent, self.old.incoming))
+            (λ _. LinkSends (Some (self.old.sent, self.old.incoming))
             (Some (self.new.sent, self.new.incoming)) piece.now)
             (λ _. SendsFront (Some (self.old.sent, self.old.incoming))
             (Some (self.new.sent, self.new.incoming)) piece.now) }
@@ -152,7 +152,7 @@ impl Link for MemoryLink {
         // A send that is not listed keeps what fits.
         ensures kept { (Contains self.old.send_fails self.old.sends → ⊥)
             → self.new.sent ≡ self.old.sent ++ take self.old.room piece.now }
-        ensures number { self.new.sends ≡ one_more self.old.sends }
+        ensures number { self.new.sends ≡ counted_once_more self.old.sends }
 
         // A listed send keeps nothing; the room shrinks by what is kept.
         ensures nothing { Contains self.old.send_fails self.old.sends
@@ -162,7 +162,7 @@ impl Link for MemoryLink {
         // Each failure is counted, and nothing else is; receipts are not numbered, and what it was
         // made for stays.
         ensures counted { MatchResult result (λ _. self.new.faults ≡ self.old.faults)
-            (λ _. self.new.faults ≡ one_more self.old.faults) }
+            (λ _. self.new.faults ≡ counted_once_more self.old.faults) }
         ensures receipts { self.new.receipts ≡ self.old.receipts }
         ensures piece { self.new.piece ≡ self.old.piece }
         ensures send_fails { self.new.send_fails ≡ self.old.send_fails }
@@ -196,12 +196,12 @@ impl Link for MemoryLink {
         // It fails at the listed receipts and nowhere else.
         ensures fails { IsErr result ↔ Contains self.old.receive_fails self.old.receipts }
         ensures count { IfOk result (λ n. n ≡ receipt_count self.old buf.old) }
-        ensures number { self.new.receipts ≡ one_more self.old.receipts }
+        ensures number { self.new.receipts ≡ counted_once_more self.old.receipts }
 
         // Each failure is counted, and nothing else is; sends are not numbered, and what it was
         // made for stays.
         ensures counted { MatchResult result (λ _. self.new.faults ≡ self.old.faults)
-            (λ _. self.new.faults ≡ one_more self.old.faults) }
+            (λ _. self.new.faults ≡ counted_once_more self.old.faults) }
         ensures sends { self.new.sends ≡ self.old.sends }
         ensures room { self.new.room ≡ self.old.room }
         ensures piece { self.new.piece ≡ self.old.piece }

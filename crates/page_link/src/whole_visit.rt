@@ -8,8 +8,8 @@ ghost use Rattle.page_link.specs.Visits.{IsNew, IsVisit, EndsWell, TellsReplies,
 
 use crate::client::Client;
 use crate::link::Link;
-use crate::turn::take_turn;
 use crate::visit_end::VisitEnd;
+use crate::visit_turn::take_turn;
 use asp_base::Clock;
 use std::alloc::Global;
 use std::rt::Clock as HostTime;

@@ -11,11 +11,11 @@ use Rattle.plain_words.specs.Words.{AreBytes, HasNo, IsNumber, IsWord, SplitsAt}
 use Rattle.plain_words.proofs.ByteStringLemmas.{string_word}
 use Rattle.plain_words.proofs.NumberLemmas.{decimal_word}
 use Rattle.plain_words.proofs.SplitLemmas.{split_same}
-use Rattle.visit_core.specs.declared.terms.Need.{Need}
-use Rattle.visit_core.specs.declared.terms.Need.TheVariants.{Exclusive, ReadOnly, Off}
+use Rattle.visit_core.specs.declared.visit_terms.Need.{Need}
+use Rattle.visit_core.specs.declared.visit_terms.Need.TheVariants.{Exclusive, ReadOnly, Off}
 use Rattle.page_script.specs.Lines.{need_word}
 use Rattle.page_script.specs.Names.{IsLetter, IsName}
-use Rattle.page_script.specs.Parts.{IsNumberThen}
+use Rattle.page_script.specs.LineParts.{IsNumberThen}
 
 -- ---- words without spaces
 

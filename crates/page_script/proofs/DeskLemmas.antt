@@ -3,14 +3,14 @@ use Rattle.std.proofs.Common.{◌≡◌, ℕ, List, [], ◌∷◌, ◌++◌, sym
 use Rattle.std.proofs.lemmas.List.{map-append}
 use Rattle.asp_messages.specs.declared.request.Request.{Request}
 use Rattle.asp_messages.specs.declared.reply.Reply.{Reply}
-use Rattle.desk.specs.Draws.{draw_of, draws_in}
-use Rattle.desk.specs.Standing.{DeskState, DeskStandsFor}
+use Rattle.plain_desk.specs.Draws.{draw_of, draws_in}
+use Rattle.plain_desk.specs.DeskStands.{DeskState, DeskStandsFor}
 use Rattle.session_machine.specs.History.{nothing}
-use Rattle.shard_core.specs.Standing.{asked_entry}
-use Rattle.page_script.specs.World.{Turn, history, entry_of, drawn_for}
-use Rattle.page_script.specs.Standing.{DeskHasTurns, turn_at}
+use Rattle.shard_core.specs.ShardStands.{asked_entry}
+use Rattle.page_script.specs.World.{WorldTurn, history, entry_of_turn, drawn_for}
+use Rattle.page_script.specs.ScriptStands.{DeskHasTurns, turn_at}
 
-pub DeskHasTurns-push : (CanCount : ℕ → Type 0) (desk desk' : DeskState) (turns : List Turn)
+pub DeskHasTurns-push : (CanCount : ℕ → Type 0) (desk desk' : DeskState) (turns : List WorldTurn)
     (number t drawn : ℕ) (request : Request) (reply : Reply)
     → DeskHasTurns CanCount desk turns → desk'.cookies.last ≡ desk.cookies.last
     → (DeskStandsFor CanCount 1 nothing 0 (history turns) desk
@@ -22,7 +22,8 @@ DeskHasTurns-push CanCount desk desk' turns number t drawn request reply stands 
   stands =
       subst (λ list. DeskStandsFor CanCount 1 nothing 0 list desk')
       (ap (λ d. history turns ++ asked_entry 0 t request d reply desk'.faults ∷ []) counted
-      ∙ sym (map-append entry_of turns (turn_at number t request turns reply desk'.faults ∷ [])))
+      ∙ sym (map-append entry_of_turn turns
+      (turn_at number t request turns reply desk'.faults ∷ [])))
       now.1;
   last = last ∙ stands.last;
 }

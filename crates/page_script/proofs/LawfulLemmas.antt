@@ -9,36 +9,36 @@ use Rattle.std.proofs.lemmas.Slice.Eq.{bytes_eq-Decides}
 use Rattle.asp_messages.specs.declared.request.Request.{Request}
 use Rattle.session_machine.specs.declared.entry.Entry.{Entry}
 use Rattle.session_machine.specs.declared.item.Item.{Item}
-use Rattle.shard_core.specs.Standing.{TellsAfter}
+use Rattle.shard_core.specs.ShardStands.{TellsAfter}
 use Rattle.session_machine.specs.Profiles.{newest}
 use Rattle.session_machine.specs.History.{nothing, IsLegal}
 use Rattle.lock_laws.specs.Laws.{ToldLock, IsInForceFor, is_content_ask}
 use Rattle.lock_laws.proofs.WayLemmas.{lock_in_the_way}
-use Rattle.visit_core.specs.declared.terms.Need.{Need}
-use Rattle.visit_core.specs.declared.terms.Need.TheVariants.{Exclusive, ReadOnly, Off}
+use Rattle.visit_core.specs.declared.visit_terms.Need.{Need}
+use Rattle.visit_core.specs.declared.visit_terms.Need.TheVariants.{Exclusive, ReadOnly, Off}
 use Rattle.visit_core.specs.declared.act.Heard.TheVariants.{Reply}
-use Rattle.visit_core.specs.Rule.{Event, heard, ask_for, IsLawful, MeetsOldLock}
-use Rattle.visit_core.specs.Terms.{Terms}
+use Rattle.visit_core.specs.VisitRule.{Event, heard, ask_for, IsLawful, MeetsOldLock}
+use Rattle.visit_core.specs.Terms.{VisitTerms}
 use Rattle.visit_core.proofs.ReleaseLemmas.{releases}
 use Rattle.keeper.specs.declared.keeping.Keeper.{Ghosts}
 use Rattle.page_script.specs.declared.script.Script.{Script}
-use Rattle.page_script.specs.World.{Page, Turn, World, history, entry_of, event_of, turns_of, is_heard, IsLawfulPage, IsLawfulWorld, MetOldLock, PagesForceOldLocks}
-use Rattle.page_script.specs.Standing.{PagesStand, Stands, IfTold, IfTells, keeper_of}
+use Rattle.page_script.specs.World.{Page, WorldTurn, World, history, entry_of_turn, event_of, turns_of, is_heard, IsLawfulPage, IsLawfulWorld, MetOldLock, PagesForceOldLocks}
+use Rattle.page_script.specs.ScriptStands.{PagesStand, ScriptStands, IfTold, IfTells, keeper_of}
 use Rattle.page_script.proofs.PlaceLemmas.{live-at}
 
 -- ---- the place of a page's last answer
 
 -- The last turn of a page, whose answer is this event.
-record IsLast (number : ℕ) (turns : List Turn) (event : Event) : Type 0 where
-  before : List Turn
-  turn : Turn
-  behind : List Turn
+record IsLast (number : ℕ) (turns : List WorldTurn) (event : Event) : Type 0 where
+  before : List WorldTurn
+  turn : WorldTurn
+  behind : List WorldTurn
   place : turns ≡ before ++ turn ∷ behind
   own : turn.page ≡ number
   last : turns_of number behind ≡ []
   answer : event_of turn ≡ event
 
-map-nil : (turns : List Turn) → map event_of turns ≡ [] → turns ≡ []
+map-nil : (turns : List WorldTurn) → map event_of turns ≡ [] → turns ≡ []
 map-nil [] is = refl
 map-nil (turn ∷ turns) is = absurd (cc is)
 
@@ -46,7 +46,7 @@ own-true : (m number : ℕ) → (m == number) ≡ true → m ≡ number
 own-true m number e = grind (arith, nat_tests)
 
 -- a turn more in front
-in_front : (number : ℕ) (turn : Turn) (turns : List Turn) (event : Event)
+in_front : (number : ℕ) (turn : WorldTurn) (turns : List WorldTurn) (event : Event)
     → IsLast number turns event → IsLast number (turn ∷ turns) event
 in_front number turn turns event found = record {
   before = turn ∷ found.before;
@@ -58,7 +58,7 @@ in_front number turn turns event found = record {
   answer = found.answer;
 }
 
-last_turn : (number : ℕ) (turns : List Turn) (events : List Event) (event : Event)
+last_turn : (number : ℕ) (turns : List WorldTurn) (events : List Event) (event : Event)
     → map event_of (turns_of number turns) ≡ events ++ event ∷ [] → IsLast number turns event
 last_turn number [] [] event is = absurd (cc is)
 last_turn number [] (other ∷ events) event is = absurd (cc is)
@@ -91,7 +91,7 @@ content-ask ReadOnly apart = refl
 content-ask Off apart = absurd (apart refl)
 
 -- the last answer of a page that met an old lock, at its place
-module _ (turns : List Turn) (number : ℕ) (page : Page) (cookie : ℕ)
+module _ (turns : List WorldTurn) (number : ℕ) (page : Page) (cookie : ℕ)
     (legal : IsLegal nothing 0 (history turns)) (page_lawful : IsLawfulPage turns number page)
     (met : MeetsOldLock page.terms page.past cookie)
   where
@@ -124,10 +124,10 @@ module _ (turns : List Turn) (number : ℕ) (page : Page) (cookie : ℕ)
         place.turn.moment
     in_force =
         lock_in_the_way newest nothing 0 (history turns) legal page.terms.key (history place.before)
-        (entry_of place.turn) cookie met.age met.since
+        (entry_of_turn place.turn) cookie met.age met.since
         (record {
           behind = history place.behind;
-          place = ap history place.place ∙ map-append entry_of place.before
+          place = ap history place.place ∙ map-append entry_of_turn place.before
               (place.turn ∷ place.behind);
           on_key = (bytes_eq-Decides page.terms.key place.turn.request.key).1
               (sym (ap (λ (r : Request). r.key) same_request));
@@ -162,7 +162,7 @@ if-legal list None P tells f = tt
 if-legal list (Some items) P tells f = f tells.0
 
 module _ {K : Type 0} (G : Ghosts K) (script : Script K) (world : World)
-    (stands : Stands G script world)
+    (stands : ScriptStands G script world)
   where
     pub lawful : IsLawfulWorld world
     lawful before page behind place =
@@ -170,7 +170,7 @@ module _ {K : Type 0} (G : Ghosts K) (script : Script K) (world : World)
         let there = live-at world.turns 0 (length before) script.pages.items before page behind
         (subst (PagesStand world.turns 0 script.pages.items) place stands.pages) at in
         record {
-          lawful = subst (λ (terms : Terms). IsLawful terms page.past) there.1.terms
+          lawful = subst (λ (terms : VisitTerms). IsLawful terms page.past) there.1.terms
               there.1.past.lawful;
           own = there.1.own;
         }

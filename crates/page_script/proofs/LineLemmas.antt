@@ -3,9 +3,9 @@ use Rattle.std.proofs.Common.{◌≡◌, ℕ, ◌<◌, ◌^◌, List, ◌∷◌,
 use Rattle.std.specs.Prelude.{decimal}
 use Rattle.std.proofs.lemmas.Fmt.{decimal_injective}
 use Rattle.plain_words.specs.Words.{IsNumber}
-use Rattle.visit_core.specs.declared.terms.Limits.{Limits}
+use Rattle.visit_core.specs.declared.visit_terms.Limits.{Limits}
 use Rattle.page_script.specs.Names.{IsName}
-use Rattle.page_script.specs.Parts.{IsLimits, IsNumberThen, IsStep}
+use Rattle.page_script.specs.LineParts.{IsLimits, IsNumberThen, IsStep}
 use Rattle.page_script.proofs.CutLemmas.{one_number_then, three_words, two_words}
 
 -- ---- limits

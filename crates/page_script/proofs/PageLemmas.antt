@@ -7,11 +7,11 @@ use Rattle.plain_words.proofs.ByteStringLemmas.{string_injective}
 use Rattle.plain_words.proofs.SplitLemmas.{split_same}
 use Rattle.visit_core.specs.declared.act.Ending.{Ending}
 use Rattle.visit_core.specs.declared.act.Ending.TheVariants.{Save, Keep, Abandon}
-use Rattle.visit_core.specs.declared.terms.Need.{Need}
-use Rattle.visit_core.specs.declared.terms.Need.TheVariants.{Exclusive, ReadOnly, Off}
+use Rattle.visit_core.specs.declared.visit_terms.Need.{Need}
+use Rattle.visit_core.specs.declared.visit_terms.Need.TheVariants.{Exclusive, ReadOnly, Off}
 use Rattle.page_script.specs.declared.line.PageLine.{PageLine}
 use Rattle.page_script.specs.Lines.{ending_words, need_word}
-use Rattle.page_script.specs.Parts.{IsEnding, IsKey, IsNumberThen, IsPage, IsPageHead, IsSave}
+use Rattle.page_script.specs.LineParts.{IsEnding, IsKey, IsNumberThen, IsPage, IsPageHead, IsSave}
 use Rattle.page_script.proofs.CutLemmas.{bytes_no_space, four_words, name_no_space, need_no_space, one_number_then, two_words}
 
 -- ---- keys

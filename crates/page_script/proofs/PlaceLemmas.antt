@@ -5,9 +5,9 @@ use Rattle.std.specs.List.{AllByRecursion}
 use Rattle.std.proofs.lemmas.Bool.Decides.{nat_tests}
 use Rattle.std.proofs.lemmas.List.Elements.{filter-append}
 use Rattle.page_script.specs.declared.script_page.ScriptPage.{ScriptPage}
-use Rattle.page_script.specs.Places.{IsUnused, IsIndexOf}
-use Rattle.page_script.specs.World.{Page, Turn, event_of, turns_of, HasName}
-use Rattle.page_script.specs.Standing.{PageStands, PagesStand}
+use Rattle.page_script.specs.PagePlaces.{IsUnused, IsIndexOf}
+use Rattle.page_script.specs.World.{Page, WorldTurn, event_of, turns_of, HasName}
+use Rattle.page_script.specs.ScriptStands.{PageStands, PagesStand}
 
 -- ---- lists
 
@@ -32,26 +32,26 @@ is-own : (m number : ℕ) → m ≢ number → (m == number) ≡ false
 is-own m number apart = grind (arith, nat_tests)
 
 -- turns that are all of another page are none of this one
-pub turns_of-none : (number : ℕ) (turns : List Turn)
-    → AllByRecursion (λ (turn : Turn). turn.page ≢ number) turns → turns_of number turns ≡ []
+pub turns_of-none : (number : ℕ) (turns : List WorldTurn)
+    → AllByRecursion (λ (turn : WorldTurn). turn.page ≢ number) turns → turns_of number turns ≡ []
 turns_of-none number [] all = refl
 turns_of-none number (turn ∷ turns) all =
     ap (λ b. cond b (turn ∷ turns_of number turns) (turns_of number turns))
     (is-own turn.page number all.0) ∙ turns_of-none number turns all.1
 
-pub turns_of-other : (number m : ℕ) (turns asked : List Turn) → m ≢ number
-    → AllByRecursion (λ (turn : Turn). turn.page ≡ m) asked
+pub turns_of-other : (number m : ℕ) (turns asked : List WorldTurn) → m ≢ number
+    → AllByRecursion (λ (turn : WorldTurn). turn.page ≡ m) asked
     → turns_of number (turns ++ asked) ≡ turns_of number turns
 turns_of-other number m turns asked apart own =
-    filter-append (λ (turn : Turn). turn.page == number) turns asked
+    filter-append (λ (turn : WorldTurn). turn.page == number) turns asked
     ∙ ap (λ more. turns_of number turns ++ more)
-    (turns_of-none number asked (All-more (λ (turn : Turn). turn.page ≡ m)
-    (λ (turn : Turn). turn.page ≢ number) asked (λ turn is e. apart (sym is ∙ e)) own))
+    (turns_of-none number asked (All-more (λ (turn : WorldTurn). turn.page ≡ m)
+    (λ (turn : WorldTurn). turn.page ≢ number) asked (λ turn is e. apart (sym is ∙ e)) own))
     ∙ append-nil (turns_of number turns)
 
 -- a page that asks nothing goes on standing
-PageStands-other : (turns asked : List Turn) (number m : ℕ) (live : ScriptPage) (page : Page)
-    → m ≢ number → AllByRecursion (λ (turn : Turn). turn.page ≡ m) asked
+PageStands-other : (turns asked : List WorldTurn) (number m : ℕ) (live : ScriptPage) (page : Page)
+    → m ≢ number → AllByRecursion (λ (turn : WorldTurn). turn.page ≡ m) asked
     → PageStands turns number live page → PageStands (turns ++ asked) number live page
 PageStands-other turns asked number m live page apart own stands = record {
   name = stands.name;
@@ -61,8 +61,8 @@ PageStands-other turns asked number m live page apart own stands = record {
   own = stands.own ∙ ap (map event_of) (sym (turns_of-other number m turns asked apart own));
 }
 
-PagesStand-other : (turns asked : List Turn) (number m : ℕ) (lives : List ScriptPage)
-    (pages : List Page) → m < number → AllByRecursion (λ (turn : Turn). turn.page ≡ m) asked
+PagesStand-other : (turns asked : List WorldTurn) (number m : ℕ) (lives : List ScriptPage)
+    (pages : List Page) → m < number → AllByRecursion (λ (turn : WorldTurn). turn.page ≡ m) asked
     → PagesStand turns number lives pages → PagesStand (turns ++ asked) number lives pages
 PagesStand-other turns asked number m [] [] below own stand = tt
 PagesStand-other turns asked number m [] (page ∷ pages) below own stand = absurd stand
@@ -74,7 +74,7 @@ PagesStand-other turns asked number m (live ∷ lives) (page ∷ pages) below ow
 
 -- ---- places
 
-pub PagesStand-length : (turns : List Turn) (number : ℕ) (lives : List ScriptPage)
+pub PagesStand-length : (turns : List WorldTurn) (number : ℕ) (lives : List ScriptPage)
     (pages : List Page) → PagesStand turns number lives pages → length lives ≡ length pages
 PagesStand-length turns number [] [] stand = refl
 PagesStand-length turns number [] (page ∷ pages) stand = absurd stand
@@ -84,7 +84,8 @@ PagesStand-length turns number (live ∷ lives) (page ∷ pages) stand = let res
 
 -- The page of the world at a place, for which the page of the script there stands; and what stands
 -- where both have changed.
-pub record IsFound (turns : List Turn) (first : ℕ) (lives : List ScriptPage) (pages : List Page)
+pub record IsFound (turns : List WorldTurn) (first : ℕ) (lives : List ScriptPage)
+    (pages : List Page)
     (n number : ℕ) (live : ScriptPage) : Type 0 where
   pub before : List Page
   pub page : Page
@@ -92,12 +93,12 @@ pub record IsFound (turns : List Turn) (first : ℕ) (lives : List ScriptPage) (
   pub place : pages ≡ before ++ page ∷ behind
   pub count : length before ≡ n
   pub stands : PageStands turns number live page
-  pub goes_on : (live' : ScriptPage) (page' : Page) (asked : List Turn)
-      → AllByRecursion (λ (turn : Turn). turn.page ≡ number) asked
+  pub goes_on : (live' : ScriptPage) (page' : Page) (asked : List WorldTurn)
+      → AllByRecursion (λ (turn : WorldTurn). turn.page ≡ number) asked
       → PageStands (turns ++ asked) number live' page'
       → PagesStand (turns ++ asked) first (set lives n live') (before ++ page' ∷ behind)
 
-pub found : (turns : List Turn) (first : ℕ) (lives : List ScriptPage) (pages : List Page)
+pub found : (turns : List WorldTurn) (first : ℕ) (lives : List ScriptPage) (pages : List Page)
     (n number : ℕ) (live : ScriptPage) → PagesStand turns first lives pages → n < length lives
     → live ≡ get_or lives n live → first + n ≡ number
     → IsFound turns first lives pages n number live
@@ -133,7 +134,7 @@ found turns first (h ∷ hs) (p ∷ ps) (suc n) number live stand inside is at =
     }
 
 -- a page more, behind the others
-pub PagesStand-push : (turns : List Turn) (first number : ℕ) (lives : List ScriptPage)
+pub PagesStand-push : (turns : List WorldTurn) (first number : ℕ) (lives : List ScriptPage)
     (pages : List Page) (live : ScriptPage) (page : Page) → PagesStand turns first lives pages
     → first + length lives ≡ number → PageStands turns number live page
     → PagesStand turns first (lives ++ live ∷ []) (pages ++ page ∷ [])
@@ -146,7 +147,8 @@ PagesStand-push turns first number (h ∷ hs) (p ∷ ps) live page stand at new 
     (stand.0, PagesStand-push turns (first + 1) number hs ps live page stand.1 (omega arith) new)
 
 -- the page of the script that stands for a page of the world
-pub live-at : (turns : List Turn) (first number : ℕ) (lives : List ScriptPage) (before : List Page)
+pub live-at : (turns : List WorldTurn) (first number : ℕ) (lives : List ScriptPage)
+    (before : List Page)
     (page : Page) (behind : List Page) → PagesStand turns first lives (before ++ page ∷ behind)
     → first + length before ≡ number → (live : ScriptPage) × PageStands turns number live page
 live-at turns first number [] [] page behind stand at = absurd stand
@@ -159,7 +161,7 @@ live-at turns first number (h ∷ hs) (p ∷ before) page behind stand at =
 
 -- ---- names
 
-names-apart : (turns : List Turn) (first : ℕ) (lives : List ScriptPage) (pages : List Page)
+names-apart : (turns : List WorldTurn) (first : ℕ) (lives : List ScriptPage) (pages : List Page)
     (name : List ℕ) → PagesStand turns first lives pages → IsUnused lives name
     → AllByRecursion (λ (page : Page). page.name ≢ name) pages
 names-apart turns first [] [] name stand unused = tt
@@ -168,7 +170,8 @@ names-apart turns first (h ∷ hs) [] name stand unused = absurd stand
 names-apart turns first (h ∷ hs) (p ∷ ps) name stand unused =
     (λ is. unused.0 (stand.0.name ∙ is), names-apart turns (first + 1) hs ps name stand.1 unused.1)
 
-pub unused-no_name : (turns : List Turn) (first : ℕ) (lives : List ScriptPage) (pages : List Page)
+pub unused-no_name : (turns : List WorldTurn) (first : ℕ) (lives : List ScriptPage)
+    (pages : List Page)
     (name : List ℕ) → PagesStand turns first lives pages → IsUnused lives name
     → HasName pages name → ⊥
 unused-no_name turns first lives pages name stand unused has =
@@ -176,7 +179,7 @@ unused-no_name turns first lives pages name stand unused has =
     (subst (AllByRecursion (λ (page : Page). page.name ≢ name)) has.3
     (names-apart turns first lives pages name stand unused)) has.4
 
-pub place-has_name : (turns : List Turn) (lives : List ScriptPage) (pages : List Page)
+pub place-has_name : (turns : List WorldTurn) (lives : List ScriptPage) (pages : List Page)
     (name : List ℕ) (n : ℕ) → PagesStand turns 0 lives pages → IsIndexOf lives name n
     → HasName pages name
 place-has_name turns lives pages name n stand place =
@@ -185,7 +188,8 @@ place-has_name turns lives pages name n stand place =
     (there.before, there.page, there.behind, there.place, sym there.stands.name ∙ place.named)
 
 -- a name that no page has is that of no page of the script
-pub no_name-unused : (turns : List Turn) (first : ℕ) (lives : List ScriptPage) (pages : List Page)
+pub no_name-unused : (turns : List WorldTurn) (first : ℕ) (lives : List ScriptPage)
+    (pages : List Page)
     (name : List ℕ) → PagesStand turns first lives pages → (HasName pages name → ⊥)
     → IsUnused lives name
 no_name-unused turns first [] [] name stand none = tt

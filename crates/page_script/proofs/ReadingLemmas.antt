@@ -11,22 +11,22 @@ use Rattle.plain_words.proofs.ByteStringLemmas.{string_word}
 use Rattle.plain_words.proofs.NumberLemmas.{decimal_word}
 use Rattle.visit_core.specs.declared.act.Ending.{Ending}
 use Rattle.visit_core.specs.declared.act.Ending.TheVariants.{Save, Keep, Abandon}
-use Rattle.visit_core.specs.declared.terms.Limits.{Limits}
-use Rattle.visit_core.specs.declared.terms.Need.{Need}
-use Rattle.visit_core.specs.declared.terms.Need.TheVariants.{Exclusive, ReadOnly, Off}
+use Rattle.visit_core.specs.declared.visit_terms.Limits.{Limits}
+use Rattle.visit_core.specs.declared.visit_terms.Need.{Need}
+use Rattle.visit_core.specs.declared.visit_terms.Need.TheVariants.{Exclusive, ReadOnly, Off}
 use Rattle.visit_core.specs.Terms.{EndingFits, LimitsFit}
 use Rattle.page_script.specs.declared.line.Line.{Line}
 use Rattle.page_script.specs.declared.line.Line.TheVariants as lines
 use Rattle.page_script.specs.declared.line.PageLine.{PageLine}
-use Rattle.page_script.specs.Lines.{IsLine, LineFits, PageFits, EndingIsBytes, line_text, limits_words, page_words, step_words, need_word, ending_words}
+use Rattle.page_script.specs.Lines.{IsScriptLine, LineFits, PageFits, EndingIsBytes, line_text, limits_words, page_words, step_words, need_word, ending_words}
 use Rattle.page_script.specs.Names.{IsLetter, IsName}
-use Rattle.page_script.specs.Parts.{IsLimits, IsPage, IsStep}
+use Rattle.page_script.specs.LineParts.{IsLimits, IsPage, IsStep}
 use Rattle.page_script.proofs.LineLemmas.{one_limits, one_step}
 use Rattle.page_script.proofs.PageLemmas.{one_page}
 
 -- the words behind `step` are no step
 no_step_line : (text words : List ℕ) → text ≡ codes "step " ++ words
-    → ((step : ℕ × List ℕ) → ¬ IsStep words step) → (line : Line) → ¬ IsLine text line
+    → ((step : ℕ × List ℕ) → ¬ IsStep words step) → (line : Line) → ¬ IsScriptLine text line
 no_step_line text words front none (lines.Limits limits) is =
     let first = ap (λ t. get_or t 0 0) (is.spelled ∙ front) in
     omega (arith, first)
@@ -44,31 +44,31 @@ no_step_line text words front none (lines.Step moment name) is =
 pub no_step_read : (text words : List ℕ) (step : Option (ℕ × List ℕ)) (found : Option Line)
     → text ≡ codes "step " ++ words
     → ReadsAs (IsStep words) step → is_some found ≡ is_some step
-    → IfNone found ((line : Line) → ¬ IsLine text line)
+    → IfNone found ((line : Line) → ¬ IsScriptLine text line)
 no_step_read text words step (Some line) front read same = tt
 no_step_read text words None None front read same = no_step_line text words front read
 no_step_read text words (Some step) None front read same = cc
 
 -- ---- one line
 
-limits_of : (text : List ℕ) (limits : Limits) → IsLine text (lines.Limits limits)
+limits_of : (text : List ℕ) (limits : Limits) → IsScriptLine text (lines.Limits limits)
     → IsLimits (drop 7 text) limits
 limits_of text limits is = record { spelled = ap (drop 7) (sym is.spelled); fits = is.fits }
 
-page_of : (text : List ℕ) (page : PageLine) → IsLine text (lines.Page page)
+page_of : (text : List ℕ) (page : PageLine) → IsScriptLine text (lines.Page page)
     → IsPage (drop 5 text) page
 page_of text page is = record { spelled = ap (drop 5) (sym is.spelled); fits = is.fits }
 
-step_of : (text : List ℕ) (moment : ℕ) (name : List ℕ) → IsLine text (lines.Step moment name)
+step_of : (text : List ℕ) (moment : ℕ) (name : List ℕ) → IsScriptLine text (lines.Step moment name)
     → IsStep (drop 5 text) (moment, name)
 step_of text moment name is = record { spelled = ap (drop 5) (sym is.spelled); fits = is.fits }
 
-first_bytes : (text : List ℕ) (a b : Line) → IsLine text a → IsLine text b
+first_bytes : (text : List ℕ) (a b : Line) → IsScriptLine text a → IsScriptLine text b
     → get_or (line_text a) 0 0 ≡ get_or (line_text b) 0 0
 first_bytes text a b is other = ap (λ t. get_or t 0 0) (is.spelled ∙ sym other.spelled)
 
 -- a text spells at most one line
-pub one_line_each : (text : List ℕ) (a b : Line) → IsLine text a → IsLine text b → a ≡ b
+pub one_line_each : (text : List ℕ) (a b : Line) → IsScriptLine text a → IsScriptLine text b → a ≡ b
 one_line_each text (lines.Limits a) (lines.Limits b) is other =
     ap lines.Limits (one_limits (drop 7 text) a b (limits_of text a is) (limits_of text b other))
 one_line_each text (lines.Page a) (lines.Page b) is other =
@@ -172,7 +172,7 @@ line_printed (lines.Step moment name) fits =
     (name_printed name fits.1))
 
 -- a line holds no line feed
-pub line_feed_nowhere : (text : List ℕ) (line : Line) → IsLine text line → HasNo 10 text
+pub line_feed_nowhere : (text : List ℕ) (line : Line) → IsScriptLine text line → HasNo 10 text
 line_feed_nowhere text line is =
     subst (HasNo 10) is.spelled (All-weaker (λ b. 32 ≤ b) (λ b. b ≢ 10)
     (λ b h e. omega (arith, h, e)) (line_text line) (line_printed line is.fits))

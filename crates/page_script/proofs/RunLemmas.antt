@@ -14,12 +14,12 @@ use Rattle.visit_core.specs.declared.act.Heard.{Heard}
 use Rattle.visit_core.specs.declared.act.Heard.TheVariants.{Reply, Strange}
 use Rattle.visit_core.specs.declared.outcome.Outcome.TheVariants.{GaveUp}
 use Rattle.visit_core.specs.Acts.{Action, send, wait_until, run, over, IsToRun}
-use Rattle.visit_core.specs.Rule.{Event, heard, ended, lost, act_of, act_after, after_answer, after_end, after_locked, refused, ending_ask, own_cookie, locked_answers, has_ended, EachFollows, IsLawful}
-use Rattle.visit_core.specs.Terms.{Terms, EndingFits}
+use Rattle.visit_core.specs.VisitRule.{Event, heard, ended, lost, act_of, act_after, after_answer, after_end, after_locked, refused, ending_ask, own_cookie, locked_answers, has_ended, EachFollows, IsLawful}
+use Rattle.visit_core.specs.Terms.{VisitTerms, EndingFits}
 use Rattle.page_script.specs.declared.line.Line.{Line}
 use Rattle.page_script.specs.declared.line.Line.TheVariants as lines
 use Rattle.page_script.specs.Lines.{LineFits}
-use Rattle.page_script.specs.World.{Page, Turn, World, Added, history, entry_of, event_of, Performs, with_events, new_page, WorldStep, Leads, IsWorldRun, turns_of, is_heard, IsLawfulWorld, PagesForceOldLocks}
+use Rattle.page_script.specs.World.{Page, WorldTurn, World, Added, history, entry_of_turn, event_of, Performs, with_events, new_page, WorldStep, Leads, IsWorldRun, turns_of, is_heard, IsLawfulWorld, PagesForceOldLocks}
 use Rattle.page_script.proofs.StepLemmas.{turns_of-own, end-no_run, last-no_run, loss-no_run}
 use Rattle.page_script.proofs.PlaceLemmas.{All-append, All-more, turns_of-none, turns_of-other}
 use Rattle.page_script.proofs.WorldLemmas.{asked-own}
@@ -54,7 +54,7 @@ refused-no_run : (answer : Heard) (content : Option (List ℕ)) (first : Bool)
 refused-no_run (Reply reply) content first = λ e. cc
 refused-no_run (Strange status) content first = λ e. cc
 
-branch-no_run : (terms : Terms) (used_up old early : Bool) (u cookie age : ℕ)
+branch-no_run : (terms : VisitTerms) (used_up old early : Bool) (u cookie age : ℕ)
     (content : Option (List ℕ)) (first : Bool) (action other more : Action)
     → action ≢ run content first → other ≢ run content first → more ≢ run content first
     → cond used_up (over (GaveUp cookie age)) (cond old action (cond early other more))
@@ -64,14 +64,14 @@ branch-no_run terms false true early u cookie age content first action other mor
 branch-no_run terms false false true u cookie age content first action other more a b c = b
 branch-no_run terms false false false u cookie age content first action other more a b c = c
 
-locked-no_run : (terms : Terms) (count u cookie age t : ℕ) (content : Option (List ℕ))
+locked-no_run : (terms : VisitTerms) (count u cookie age t : ℕ) (content : Option (List ℕ))
     (first : Bool) → after_locked terms count u cookie age t ≢ run content first
 locked-no_run terms count u cookie age t content first =
     branch-no_run terms (nat_le terms.limits.polls count) (nat_lt terms.limits.execution_secs age)
     (nat_lt t (u + terms.limits.poll_ms)) u cookie age content first _ _ _ (λ e. cc) (λ e. cc)
     (λ e. cc)
 
-answer-runs : (terms : Terms) (count w : ℕ) (ask : Ask) (answer : Heard) (t : ℕ)
+answer-runs : (terms : VisitTerms) (count w : ℕ) (ask : Ask) (answer : Heard) (t : ℕ)
     (content : Option (List ℕ)) (first : Bool)
     → after_answer terms count w ask answer t ≡ run content first
     → (u : ℕ) → IsToRun (after_answer terms count w ask answer u)
@@ -107,7 +107,8 @@ heard-runs : (b : Bool) (answer : Heard) (now : Action) (later : Action) (conten
 heard-runs true answer now later content first goes e = absurd (end-no_run answer content first e)
 heard-runs false answer now later content first goes e = goes e
 
-runs-always : (terms : Terms) (past : List Event) (t : ℕ) (content : Option (List ℕ)) (first : Bool)
+runs-always : (terms : VisitTerms) (past : List Event) (t : ℕ) (content : Option (List ℕ))
+    (first : Bool)
     → act_after terms past t ≡ run content first → (u : ℕ) → IsToRun (act_after terms past u)
 runs-always terms [] t content first e u = absurd cc
 runs-always terms (heard w request answer ∷ past) t content first e u =
@@ -122,17 +123,17 @@ runs-always terms (lost ∷ past) t content first e u =
 -- ---- sound worlds
 
 -- The page with this number follows its rule, heard its own turns, and its ending is in range.
-record IsSound (turns : List Turn) (number : ℕ) (page : Page) : Type 0 where
+record IsSound (turns : List WorldTurn) (number : ℕ) (page : Page) : Type 0 where
   lawful : IsLawful page.terms page.past
   own : filter is_heard page.past ≡ map event_of (turns_of number turns)
   fits : EndingFits page.ending
 
-abbrev AreSound : List Turn → ℕ → List Page → Type 0
+abbrev AreSound : List WorldTurn → ℕ → List Page → Type 0
 AreSound turns first [] = ⊤
 AreSound turns first (page ∷ pages) = IsSound turns first page × AreSound turns (first + 1) pages
 
-IsSound-other : (turns asked : List Turn) (number m : ℕ) (page : Page) → m ≢ number
-    → AllByRecursion (λ (turn : Turn). turn.page ≡ m) asked → IsSound turns number page
+IsSound-other : (turns asked : List WorldTurn) (number m : ℕ) (page : Page) → m ≢ number
+    → AllByRecursion (λ (turn : WorldTurn). turn.page ≡ m) asked → IsSound turns number page
     → IsSound (turns ++ asked) number page
 IsSound-other turns asked number m page apart own sound =
     record {
@@ -143,8 +144,8 @@ IsSound-other turns asked number m page apart own sound =
           sound.fits;
     }
 
-AreSound-other : (turns asked : List Turn) (first m : ℕ) (pages : List Page) → m < first
-    → AllByRecursion (λ (turn : Turn). turn.page ≡ m) asked → AreSound turns first pages
+AreSound-other : (turns asked : List WorldTurn) (first m : ℕ) (pages : List Page) → m < first
+    → AllByRecursion (λ (turn : WorldTurn). turn.page ≡ m) asked → AreSound turns first pages
     → AreSound (turns ++ asked) first pages
 AreSound-other turns asked first m [] below own sound = tt
 AreSound-other turns asked first m (page ∷ pages) below own sound = (
@@ -152,7 +153,7 @@ AreSound-other turns asked first m (page ∷ pages) below own sound = (
   AreSound-other turns asked (first + 1) m pages (omega arith) own sound.1,
 )
 
-sound-at : (turns : List Turn) (first number : ℕ) (before : List Page) (page : Page)
+sound-at : (turns : List WorldTurn) (first number : ℕ) (before : List Page) (page : Page)
     (behind : List Page) → AreSound turns first (before ++ page ∷ behind)
     → first + length before ≡ number
     → IsSound turns number page
@@ -161,9 +162,11 @@ sound-at turns first number [] page behind sound at = let here : first ≡ numbe
 sound-at turns first number (p ∷ before) page behind sound at =
     sound-at turns (first + 1) number before page behind sound.1 (omega arith)
 
-sound-set : (turns asked : List Turn) (first number : ℕ) (before : List Page) (page page' : Page)
+sound-set : (turns asked : List WorldTurn) (first number : ℕ) (before : List Page)
+    (page page' : Page)
     (behind : List Page) → AreSound turns first (before ++ page ∷ behind)
-    → first + length before ≡ number → AllByRecursion (λ (turn : Turn). turn.page ≡ number) asked
+    → first + length before ≡ number
+    → AllByRecursion (λ (turn : WorldTurn). turn.page ≡ number) asked
     → IsSound (turns ++ asked) number page'
     → AreSound (turns ++ asked) first (before ++ page' ∷ behind)
 sound-set turns asked first number [] page page' behind sound at own new =
@@ -177,7 +180,7 @@ sound-set turns asked first number (p ∷ before) page page' behind sound at own
   sound-set turns asked (first + 1) number before page page' behind sound.1 (omega arith) own new,
 )
 
-sound-push : (turns : List Turn) (first number : ℕ) (pages : List Page) (page : Page)
+sound-push : (turns : List WorldTurn) (first number : ℕ) (pages : List Page) (page : Page)
     → AreSound turns first pages → first + length pages ≡ number → IsSound turns number page
     → AreSound turns first (pages ++ page ∷ [])
 sound-push turns first number [] page sound at new = let here : number ≡ first = omega arith in
@@ -186,14 +189,14 @@ sound-push turns first number (p ∷ pages) page sound at new =
     (sound.0, sound-push turns (first + 1) number pages page sound.1 (omega arith) new)
 
 -- one event more in a lawful past
-IsLawful-push : (terms : Terms) (past : List Event) (event : Event)
+IsLawful-push : (terms : VisitTerms) (past : List Event) (event : Event)
     → EachFollows terms (event ∷ reverse past) → IsLawful terms (past ++ event ∷ [])
 IsLawful-push terms past event follows = subst (EachFollows terms)
     (sym (reverse-append past (event ∷ []))) follows
 
 -- a page that does nothing stays sound
-unchanged-sound : (number : ℕ) (turns : List Turn) (page : Page) (events : List Event)
-    (asked : List Turn) → events ≡ [] → asked ≡ [] → IsSound turns number page
+unchanged-sound : (number : ℕ) (turns : List WorldTurn) (page : Page) (events : List Event)
+    (asked : List WorldTurn) → events ≡ [] → asked ≡ [] → IsSound turns number page
     → IsSound (turns ++ asked) number (with_events page events)
 unchanged-sound number turns page events asked no_event no_turn sound = record {
   lawful = subst (IsLawful page.terms) (sym (ap (λ es. page.past ++ es) no_event
@@ -206,7 +209,7 @@ unchanged-sound number turns page events asked no_event no_turn sound = record {
 }
 
 -- a page that acts stays sound
-acts-sound : (action : Action) (t number : ℕ) (turns : List Turn) (page : Page)
+acts-sound : (action : Action) (t number : ℕ) (turns : List WorldTurn) (page : Page)
     (adds : Added) → act_of page.terms page.past t ≡ action
     → Performs action t number page.ending turns adds → IsSound turns number page
     → IsSound (turns ++ adds.asked) number (with_events page adds.events)
@@ -251,7 +254,7 @@ acts-sound (over outcome) t number turns page adds acting acts sound =
 -- The pages of the world are sound, and each turn is that of one of them.
 record IsSoundWorld (world : World) : Type 0 where
   pages : AreSound world.turns 0 world.pages
-  numbered : AllByRecursion (λ (turn : Turn). turn.page < length world.pages) world.turns
+  numbered : AllByRecursion (λ (turn : WorldTurn). turn.page < length world.pages) world.turns
 
 step-sound : (world world' : World) (line : Line) (out : List ℕ) → LineFits line
     → WorldStep world line world' out → IsSoundWorld world → IsSoundWorld world'
@@ -264,8 +267,9 @@ step-sound world world' (lines.Page line) out fits step sound =
           sound.pages (omega arith)
           (record { lawful = tt; own = ap (map event_of) (sym none); fits = fits.ending });
       numbered =
-          All-more (λ (turn : Turn). turn.page < length world.pages)
-          (λ (turn : Turn). turn.page < length (world.pages ++ new_page world.limits line ∷ []))
+          All-more (λ (turn : WorldTurn). turn.page < length world.pages)
+          (λ (turn : WorldTurn). turn.page < length
+          (world.pages ++ new_page world.limits line ∷ []))
           world.turns
           (λ turn below. omega (arith, length-append world.pages (new_page world.limits line ∷ [])))
           sound.numbered;
@@ -273,8 +277,8 @@ step-sound world world' (lines.Page line) out fits step sound =
   where
     none : turns_of (length world.pages) world.turns ≡ []
     none = turns_of-none (length world.pages) world.turns
-        (All-more (λ (turn : Turn). turn.page < length world.pages)
-        (λ (turn : Turn). turn.page ≢ length world.pages) world.turns
+        (All-more (λ (turn : WorldTurn). turn.page < length world.pages)
+        (λ (turn : WorldTurn). turn.page ≢ length world.pages) world.turns
         (λ turn below is. absurd (omega arith)) sound.numbered)
 step-sound world world' (lines.Step t name) out fits step sound =
     subst IsSoundWorld (sym step.after) (record {
@@ -287,19 +291,20 @@ step-sound world world' (lines.Step t name) out fits step sound =
           (sound-at world.turns 0 (length step.before) step.before step.page step.behind there
           (omega arith)));
       numbered =
-          subst (λ k. AllByRecursion (λ (turn : Turn). turn.page < k) (world.turns ++ step.asked))
+          subst (λ k. AllByRecursion (λ (turn : WorldTurn). turn.page < k)
+          (world.turns ++ step.asked))
           (sym long)
-          (All-append (λ (turn : Turn). turn.page < length world.pages) world.turns step.asked
+          (All-append (λ (turn : WorldTurn). turn.page < length world.pages) world.turns step.asked
           sound.numbered
-          (All-more (λ (turn : Turn). turn.page ≡ length step.before)
-          (λ (turn : Turn). turn.page < length world.pages) step.asked
+          (All-more (λ (turn : WorldTurn). turn.page ≡ length step.before)
+          (λ (turn : WorldTurn). turn.page < length world.pages) step.asked
           (λ turn e. omega (arith, below)) own));
     })
   where
     there : AreSound world.turns 0 (step.before ++ step.page ∷ step.behind)
     there = subst (AreSound world.turns 0) step.place sound.pages
 
-    own : AllByRecursion (λ (turn : Turn). turn.page ≡ length step.before) step.asked
+    own : AllByRecursion (λ (turn : WorldTurn). turn.page ≡ length step.before) step.asked
     own = asked-own (act_of step.page.terms step.page.past t) t (length step.before)
         step.page.ending world.turns
         (record { events = step.events; asked = step.asked; words = step.words }) step.acts
@@ -336,7 +341,7 @@ run-lawful script world out fits runs before page behind place =
 
 -- a step adds turns behind those that were
 step-turns : (world world' : World) (line : Line) (out : List ℕ) → WorldStep world line world' out
-    → (more : List Turn) × (world'.turns ≡ world.turns ++ more)
+    → (more : List WorldTurn) × (world'.turns ≡ world.turns ++ more)
 step-turns world world' (lines.Limits limits) out step =
     ([], ap (λ (w : World). w.turns) step.0 ∙ sym (append-nil world.turns))
 step-turns world world' (lines.Page page) out step =
@@ -345,7 +350,7 @@ step-turns world world' (lines.Step t name) out step =
     (step.asked, ap (λ (w : World). w.turns) step.after)
 
 leads-turns : (world world' : World) (script : List Line) (out : List ℕ)
-    → Leads world script world' out → (more : List Turn) × (world'.turns ≡ world.turns ++ more)
+    → Leads world script world' out → (more : List WorldTurn) × (world'.turns ≡ world.turns ++ more)
 leads-turns world world' [] out leads = (
   [],
   ap (λ (w : World). w.turns) leads.0
@@ -368,6 +373,6 @@ run-forces script rest world last out more fits runs leads legal =
     let grown = leads-turns world last rest more leads in
     forces world
     (IsLegal-front newest nothing 0 (history world.turns) (history grown.0)
-    (subst (IsLegal nothing 0) (ap history grown.1 ∙ map-append entry_of world.turns grown.0)
+    (subst (IsLegal nothing 0) (ap history grown.1 ∙ map-append entry_of_turn world.turns grown.0)
     legal))
     (run-lawful script world out fits runs)

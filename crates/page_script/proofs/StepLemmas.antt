@@ -14,13 +14,13 @@ use Rattle.visit_core.specs.declared.act.Ending.{Ending}
 use Rattle.visit_core.specs.declared.act.Heard.{Heard}
 use Rattle.visit_core.specs.declared.act.Heard.TheVariants.{Reply, Strange}
 use Rattle.visit_core.specs.Acts.{Action, send, wait_until, run, over}
-use Rattle.visit_core.specs.Rule.{Event, heard, ended, lost, act_of, act_after, after_end, after_loss, at_end, ending_ask, own_cookie, has_ended}
+use Rattle.visit_core.specs.VisitRule.{Event, heard, ended, lost, act_of, act_after, after_end, after_loss, at_end, ending_ask, own_cookie, has_ended}
 use Rattle.visit_core.specs.Stages.{HasPast}
-use Rattle.visit_core.specs.Terms.{Terms}
+use Rattle.visit_core.specs.Terms.{VisitTerms}
 use Rattle.page_script.specs.declared.script_page.ScriptPage.{ScriptPage}
-use Rattle.page_script.specs.World.{Page, Turn, Added, event_of, Performs, turn_words, run_words, with_events, turns_of, is_heard}
-use Rattle.desk.specs.Standing.{DeskState}
-use Rattle.page_script.specs.Standing.{DeskHasTurns, turn_at, PageAtDesk, PageStands, EachSteps}
+use Rattle.page_script.specs.World.{Page, WorldTurn, Added, event_of, Performs, turn_words, run_words, with_events, turns_of, is_heard}
+use Rattle.plain_desk.specs.DeskStands.{DeskState}
+use Rattle.page_script.specs.ScriptStands.{DeskHasTurns, turn_at, PageAtDesk, PageStands, EachSteps}
 
 -- ---- results
 
@@ -90,7 +90,7 @@ end-no_run (Reply replies.CookiesOut) content first = λ e. cc
 end-no_run (Reply replies.PlacesOut) content first = λ e. cc
 end-no_run (Strange status) content first = λ e. cc
 
-pub last-no_run : (terms : Terms) (ask : Option Ask) (content : Option (List ℕ)) (first : Bool)
+pub last-no_run : (terms : VisitTerms) (ask : Option Ask) (content : Option (List ℕ)) (first : Bool)
     → at_end terms ask ≢ run content first
 last-no_run terms None content first = λ e. cc
 last-no_run terms (Some ask) content first = λ e. cc
@@ -107,7 +107,8 @@ heard-run : (b : Bool) (answer : Heard) (action : Action) (content : Option (Lis
 heard-run true answer action content first is = absurd (end-no_run answer content first is)
 heard-run false answer action content first is = refl
 
-after-run : (terms : Terms) (past : List Event) (t : ℕ) (content : Option (List ℕ)) (first : Bool)
+after-run : (terms : VisitTerms) (past : List Event) (t : ℕ) (content : Option (List ℕ))
+    (first : Bool)
     → act_after terms past t ≡ run content first → has_ended past ≡ false
 after-run terms [] t content first is = refl
 after-run terms (heard u request answer ∷ past) t content first is =
@@ -117,17 +118,17 @@ after-run terms (ended ending ∷ past) t content first is =
 after-run terms (lost ∷ past) t content first is =
     absurd (loss-no_run (act_after terms past t) content first is)
 
-pub runs-not_ended : (terms : Terms) (past : List Event) (t : ℕ) (content : Option (List ℕ))
+pub runs-not_ended : (terms : VisitTerms) (past : List Event) (t : ℕ) (content : Option (List ℕ))
     (first : Bool) → act_of terms past t ≡ run content first → has_ended past ≡ false
 runs-not_ended terms past t content first is = sym (has_ended-reverse past)
     ∙ after-run terms (reverse past) t content first is
 
 -- ---- the turns of a page
 
-pub turns_of-own : (number : ℕ) (turns : List Turn) (turn : Turn) → turn.page ≡ number
+pub turns_of-own : (number : ℕ) (turns : List WorldTurn) (turn : WorldTurn) → turn.page ≡ number
     → turns_of number (turns ++ turn ∷ []) ≡ turns_of number turns ++ turn ∷ []
 turns_of-own number turns turn own =
-    filter-append (λ (other : Turn). other.page == number) turns (turn ∷ [])
+    filter-append (λ (other : WorldTurn). other.page == number) turns (turn ∷ [])
     ∙ ap (λ b. turns_of number turns ++ cond b (turn ∷ []) []) (eq-eqb turn.page number own)
 
 -- ---- steps
@@ -161,7 +162,7 @@ module _ (CanCount : ℕ → Type 0) (t : ℕ) (live : ScriptPage)
     -- a step that changes nothing
     pub quiet : (desk : DeskState) (action : Action) (words : List ℕ) (Prints : List ℕ → Type 0)
         → ((past : List Event) → HasPast live.visit past → action ≡ act_of live.visit.terms past t)
-        → ((number : ℕ) (ending : Ending) (turns : List Turn)
+        → ((number : ℕ) (ending : Ending) (turns : List WorldTurn)
         → Performs action t number ending turns (only_words words)) → Prints words
         → EachSteps CanCount t (at_desk live desk) (at_desk live desk) Prints
     quiet desk action words Prints act acts prints number turns page stands desk_stands = record {
@@ -191,7 +192,7 @@ module _ (CanCount : ℕ → Type 0) (t : ℕ) (live : ScriptPage)
         → act_of live.visit.terms past t ≡ send sent
         → HasPast live'.visit (past ++ heard t sent (Reply reply) ∷ []))
         → live'.name ≡ live.name → live'.ending ≡ live.ending → ReplyFits reply
-        → ((number : ℕ) (turns : List Turn) → DeskHasTurns CanCount desk turns
+        → ((number : ℕ) (turns : List WorldTurn) → DeskHasTurns CanCount desk turns
         → DeskHasTurns CanCount desk' (turns ++ turn_at number t request turns reply desk'.faults
         ∷ []))
         → Prints ((ask_spelling request.ask ++ codes " : ") ++ reply_spelling reply)
@@ -230,7 +231,7 @@ module _ (CanCount : ℕ → Type 0) (t : ℕ) (live : ScriptPage)
           prints = prints;
         }
       where
-        turn : Turn
+        turn : WorldTurn
         turn = turn_at number t request turns reply desk'.faults
 
     -- a page runs, and its visit is told how it ends
@@ -238,7 +239,8 @@ module _ (CanCount : ℕ → Type 0) (t : ℕ) (live : ScriptPage)
         (Prints : List ℕ → Type 0)
         → ((past : List Event) → HasPast live.visit past
         → run content first ≡ act_of live.visit.terms past t)
-        → ((number : ℕ) (turns : List Turn) (page : Page) (body : Option (List ℕ)) (mark : Bool)
+        → ((number : ℕ) (turns : List WorldTurn) (page : Page) (body : Option (List ℕ))
+        (mark : Bool)
         (u : ℕ) → PageStands turns number live page
         → act_of page.terms page.past u ≡ run body mark
         → PageStands turns number live' (with_events page (ended page.ending ∷ [])))
@@ -264,14 +266,14 @@ module _ (CanCount : ℕ → Type 0) (t : ℕ) (live : ScriptPage)
         }
 
 -- the ending that is kept until the visit is told of it
-pub kept_ending : (live : ScriptPage) (turns : List Turn) (number : ℕ) (page : Page)
+pub kept_ending : (live : ScriptPage) (turns : List WorldTurn) (number : ℕ) (page : Page)
     (content : Option (List ℕ)) (first : Bool) (t : ℕ) → PageStands turns number live page
     → act_of page.terms page.past t ≡ run content first → live.ending ≡ Some page.ending
 kept_ending live turns number page content first t stands runs =
     stands.ending ∙ ap (λ b. cond b None (Some page.ending))
     (runs-not_ended page.terms page.past t content first runs)
 
-pub finished : (live live' : ScriptPage) (ending : Ending) (turns : List Turn) (number : ℕ)
+pub finished : (live live' : ScriptPage) (ending : Ending) (turns : List WorldTurn) (number : ℕ)
     (page : Page) (content : Option (List ℕ)) (first : Bool) (t : ℕ)
     → PageStands turns number live page → act_of page.terms page.past t ≡ run content first
     → live.ending ≡ Some ending → live'.ending ≡ None → live'.name ≡ live.name

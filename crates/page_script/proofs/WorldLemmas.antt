@@ -3,44 +3,44 @@ use Rattle.std.proofs.Common.{◌≡◌, ◌≢◌, ℕ, ◌+◌, ◌<◌, List,
 use Rattle.std.specs.Prelude.{◌⊎◌, ⊤}
 use Rattle.std.specs.List.{AllByRecursion}
 use Rattle.visit_core.specs.declared.act.Ending.{Ending}
-use Rattle.visit_core.specs.declared.terms.Limits.{Limits}
+use Rattle.visit_core.specs.declared.visit_terms.Limits.{Limits}
 use Rattle.visit_core.specs.Acts.{Action, send, wait_until, run, over}
-use Rattle.visit_core.specs.Rule.{act_of}
+use Rattle.visit_core.specs.VisitRule.{act_of}
 use Rattle.keeper.specs.declared.keeping.Keeper.{Ghosts}
 use Rattle.page_script.specs.declared.line.Line.TheVariants as lines
 use Rattle.page_script.specs.declared.line.PageLine.{PageLine}
 use Rattle.page_script.specs.declared.script.Script.{Script}
 use Rattle.page_script.specs.declared.script_page.ScriptPage.{ScriptPage}
-use Rattle.page_script.specs.Places.{IsUnused}
-use Rattle.page_script.specs.World.{Page, Turn, World, Added, Performs, step_line, with_events, turns_of, new_page, most_pages}
-use Rattle.desk.specs.Standing.{state_of}
-use Rattle.page_script.specs.Standing.{PageAtDesk, PageStands, PagesStand, Steps, EachSteps, EachMayStep, Stays, Stands, WorldTakes}
+use Rattle.page_script.specs.PagePlaces.{IsUnused}
+use Rattle.page_script.specs.World.{Page, WorldTurn, World, Added, Performs, step_line, with_events, turns_of, new_page, most_pages}
+use Rattle.plain_desk.specs.DeskStands.{desk_state}
+use Rattle.page_script.specs.ScriptStands.{PageAtDesk, PageStands, PagesStand, StepsAtDesk, EachSteps, EachMayStep, Stays, ScriptStands, WorldTakes}
 use Rattle.page_script.proofs.PlaceLemmas.{All-append, All-more, turns_of-none, PagesStand-length, IsFound, found, PagesStand-push, unused-no_name}
 
 -- a step asks only in its own page's name
-pub asked-own : (action : Action) (t number : ℕ) (ending : Ending) (turns : List Turn)
+pub asked-own : (action : Action) (t number : ℕ) (ending : Ending) (turns : List WorldTurn)
     (adds : Added) → Performs action t number ending turns adds
-    → AllByRecursion (λ (turn : Turn). turn.page ≡ number) adds.asked
+    → AllByRecursion (λ (turn : WorldTurn). turn.page ≡ number) adds.asked
 asked-own (send request) t number ending turns adds acts =
-    subst (AllByRecursion (λ (turn : Turn). turn.page ≡ number)) (sym acts.3) (acts.1.page, tt)
+    subst (AllByRecursion (λ (turn : WorldTurn). turn.page ≡ number)) (sym acts.3) (acts.1.page, tt)
 asked-own (wait_until moment) t number ending turns adds acts =
-    subst (AllByRecursion (λ (turn : Turn). turn.page ≡ number)) (sym acts.1) tt
+    subst (AllByRecursion (λ (turn : WorldTurn). turn.page ≡ number)) (sym acts.1) tt
 asked-own (run content first) t number ending turns adds acts =
-    subst (AllByRecursion (λ (turn : Turn). turn.page ≡ number)) (sym acts.1) tt
+    subst (AllByRecursion (λ (turn : WorldTurn). turn.page ≡ number)) (sym acts.1) tt
 asked-own (over outcome) t number ending turns adds acts =
-    subst (AllByRecursion (λ (turn : Turn). turn.page ≡ number)) (sym acts.1) tt
+    subst (AllByRecursion (λ (turn : WorldTurn). turn.page ≡ number)) (sym acts.1) tt
 
 module _ {K : Type 0} (G : Ghosts K) (script script' : Script K) (world : World)
-    (stands : Stands G script world)
+    (stands : ScriptStands G script world)
   where
     -- a page that was named
     pub page-taken : (line : PageLine) (live : ScriptPage) → IsUnused script.pages.items line.name
         → length script.pages.items < most_pages
         → script'.pages.items ≡ script.pages.items ++ live ∷ []
-        → ((number : ℕ) (turns : List Turn) → turns_of number turns ≡ []
+        → ((number : ℕ) (turns : List WorldTurn) → turns_of number turns ≡ []
         → PageStands turns number live (new_page script.limits line))
-        → script'.limits ≡ script.limits → state_of G script'.desk
-        ≡ state_of G script.desk
+        → script'.limits ≡ script.limits → desk_state G script'.desk
+        ≡ desk_state G script.desk
         → WorldTakes G script' world (lines.Page line) (λ printed. printed ≡ [])
     page-taken line live unused room items new limits desk = record {
       world' = record world { pages = world.pages ++ page ∷ [] };
@@ -63,8 +63,8 @@ module _ {K : Type 0} (G : Ghosts K) (script script' : Script K) (world : World)
             (subst (λ (l : Limits). PageStands world.turns (length world.pages) live
             (new_page l line)) stands.limits (new (length world.pages) world.turns none)));
         numbered =
-            All-more (λ (turn : Turn). turn.page < length world.pages)
-            (λ (turn : Turn). turn.page < length (world.pages ++ page ∷ [])) world.turns
+            All-more (λ (turn : WorldTurn). turn.page < length world.pages)
+            (λ (turn : WorldTurn). turn.page < length (world.pages ++ page ∷ [])) world.turns
             (λ turn below. omega (arith, length-append world.pages (page ∷ []))) stands.numbered;
         desk = rw desk stands.desk;
       };
@@ -79,14 +79,14 @@ module _ {K : Type 0} (G : Ghosts K) (script script' : Script K) (world : World)
 
         none : turns_of (length world.pages) world.turns ≡ []
         none = turns_of-none (length world.pages) world.turns
-            (All-more (λ (turn : Turn). turn.page < length world.pages)
-            (λ (turn : Turn). turn.page ≢ length world.pages) world.turns
+            (All-more (λ (turn : WorldTurn). turn.page < length world.pages)
+            (λ (turn : WorldTurn). turn.page ≢ length world.pages) world.turns
             (λ turn below is. absurd (omega arith)) stands.numbered)
 
     -- limits for the pages to come
     pub limits-taken : (limits : Limits) (out : List ℕ) → script'.limits ≡ limits
         → script'.pages.items ≡ script.pages.items
-        → state_of G script'.desk ≡ state_of G script.desk
+        → desk_state G script'.desk ≡ desk_state G script.desk
         → WorldTakes G script' world (lines.Limits limits)
         (λ printed. out ≡ out ++ printed)
     limits-taken limits out is items desk = record {
@@ -111,7 +111,7 @@ module _ {K : Type 0} (G : Ghosts K) (script script' : Script K) (world : World)
       where
         -- the page of the script, with the desk of a script
         abbrev at_desk : ScriptPage → Script K → PageAtDesk
-        at_desk page script = record { page = page; desk = state_of G script.desk }
+        at_desk page script = record { page = page; desk = desk_state G script.desk }
 
         at : 0 + n ≡ n
         at = omega arith
@@ -120,7 +120,7 @@ module _ {K : Type 0} (G : Ghosts K) (script script' : Script K) (world : World)
         there = found world.turns 0 script.pages.items world.pages n n live stands.pages inside is
             at
 
-        step-taken : (P : List ℕ → Type 0) → Steps G.can_count t
+        step-taken : (P : List ℕ → Type 0) → StepsAtDesk G.can_count t
             (record { turns = world.turns; number = n; page = there.page })
             (at_desk live' script') (λ words. P (step_line t live.name words))
             → WorldTakes G script' world (lines.Step t name) P
@@ -150,12 +150,13 @@ module _ {K : Type 0} (G : Ghosts K) (script script' : Script K) (world : World)
                 (there.goes_on live' (with_events there.page step.events) step.asked own
                 step.page_stands);
             numbered =
-                subst (λ k. AllByRecursion (λ (turn : Turn). turn.page < k)
+                subst (λ k. AllByRecursion (λ (turn : WorldTurn). turn.page < k)
                 (world.turns ++ step.asked)) (sym long)
-                (All-append (λ (turn : Turn). turn.page < length world.pages) world.turns step.asked
+                (All-append (λ (turn : WorldTurn). turn.page < length world.pages) world.turns
+                step.asked
                 stands.numbered
-                (All-more (λ (turn : Turn). turn.page ≡ n)
-                (λ (turn : Turn). turn.page < length world.pages) step.asked
+                (All-more (λ (turn : WorldTurn). turn.page ≡ n)
+                (λ (turn : WorldTurn). turn.page < length world.pages) step.asked
                 (λ turn e. omega (arith, below)) own));
             desk = step.desk_stands;
           };
@@ -165,7 +166,7 @@ module _ {K : Type 0} (G : Ghosts K) (script script' : Script K) (world : World)
             after : List Page
             after = there.before ++ with_events there.page step.events ∷ there.behind
 
-            own : AllByRecursion (λ (turn : Turn). turn.page ≡ n) step.asked
+            own : AllByRecursion (λ (turn : WorldTurn). turn.page ≡ n) step.asked
             own = asked-own (act_of there.page.terms there.page.past t) t n there.page.ending
                 world.turns
                 (record { events = step.events; asked = step.asked; words = step.words }) step.acts
@@ -188,7 +189,7 @@ module _ {K : Type 0} (G : Ghosts K) (script script' : Script K) (world : World)
         -- nothing has changed
         step-stayed : Stays G.can_count
             (record { turns = world.turns; number = n; page = there.page })
-            (at_desk live' script') → Stands G script' world
+            (at_desk live' script') → ScriptStands G script' world
         step-stayed stays = record {
           limits = limits ∙ stands.limits;
           pages =
@@ -204,7 +205,7 @@ module _ {K : Type 0} (G : Ghosts K) (script script' : Script K) (world : World)
         }
 
         pub may-taken : EachMayStep G.can_count t (at_desk live script) (at_desk live' script')
-            → Stands G script' world
+            → ScriptStands G script' world
             ⊎ WorldTakes G script' world (lines.Step t name) (λ printed. ⊤)
         may-taken each = elim (each n world.turns there.page there.stands stands.desk) [
           | inl stays ↦ inl (step-stayed stays)

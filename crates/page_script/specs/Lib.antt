@@ -1,7 +1,7 @@
 pub mod Endings
 pub mod Lines
 pub mod Names
-pub mod Parts
-pub mod Places
-pub mod Standing
+pub mod LineParts
+pub mod PagePlaces
+pub mod ScriptStands
 pub mod World

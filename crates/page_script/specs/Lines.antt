@@ -5,9 +5,9 @@ use Rattle.asp_messages.specs.Ranges.{KeyFits}
 use Rattle.plain_words.specs.Words.{AreBytes}
 use Rattle.visit_core.specs.declared.act.Ending.{Ending}
 use Rattle.visit_core.specs.declared.act.Ending.TheVariants.{Save, Keep, Abandon}
-use Rattle.visit_core.specs.declared.terms.Need.{Need}
-use Rattle.visit_core.specs.declared.terms.Limits.{Limits}
-use Rattle.visit_core.specs.declared.terms.Need.TheVariants.{Exclusive, ReadOnly, Off}
+use Rattle.visit_core.specs.declared.visit_terms.Need.{Need}
+use Rattle.visit_core.specs.declared.visit_terms.Limits.{Limits}
+use Rattle.visit_core.specs.declared.visit_terms.Need.TheVariants.{Exclusive, ReadOnly, Off}
 use Rattle.visit_core.specs.Terms.{LimitsFit, EndingFits}
 use Rattle.page_script.specs.declared.line.Line.{Line}
 use Rattle.page_script.specs.declared.line.Line.TheVariants as lines
@@ -74,11 +74,11 @@ LineFits (lines.Step moment name) = (moment ≤ 2 ^ 62) × IsName name
 -- ---- lines
 
 -- the most bytes of a line, without its line feed
-abbrev pub most_line : ℕ
-most_line = 65536
+abbrev pub most_script_line : ℕ
+most_script_line = 65536
 
 -- the text spells the line
-pub record IsLine (text : List ℕ) (line : Line) : Type 0 where
+pub record IsScriptLine (text : List ℕ) (line : Line) : Type 0 where
   pub fits : LineFits line
   pub spelled : line_text line ≡ text
-  pub short : length text ≤ most_line
+  pub short : length text ≤ most_script_line

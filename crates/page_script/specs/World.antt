@@ -10,19 +10,19 @@ use Rattle.asp_messages.specs.declared.reply.Reply.TheVariants.{Locked}
 use Rattle.asp_messages.specs.Fields.{most_cookie}
 use Rattle.asp_messages.specs.PlainSpelling.{◌then◌, flag_word, bytes_word, ask_spelling, reply_spelling}
 use Rattle.asp_messages.specs.Ranges.{ReplyFits}
-use Rattle.desk.specs.Draws.{draw_of, draws_in}
+use Rattle.plain_desk.specs.Draws.{draw_of, draws_in}
 use Rattle.session_machine.specs.declared.entry.Entry.{Entry}
 use Rattle.session_machine.specs.Profiles.{newest}
 use Rattle.session_machine.specs.History.{nothing}
-use Rattle.shard_core.specs.Standing.{asked_entry}
+use Rattle.shard_core.specs.ShardStands.{asked_entry}
 use Rattle.lock_laws.specs.Laws.{IsInForceFor}
 use Rattle.visit_core.specs.declared.act.Ending.{Ending}
 use Rattle.visit_core.specs.declared.act.Heard.TheVariants.{Reply}
-use Rattle.visit_core.specs.declared.terms.Limits.{Limits}
+use Rattle.visit_core.specs.declared.visit_terms.Limits.{Limits}
 use Rattle.visit_core.specs.Acts.{Action, send, wait_until, run, over}
 use Rattle.visit_core.specs.OutcomeText.{outcome_spelling}
-use Rattle.visit_core.specs.Rule.{Event, heard, ended, lost, act_of, send_ask, ask_for, has_ended, IsLawful, MeetsOldLock}
-use Rattle.visit_core.specs.Terms.{Terms, default_limits}
+use Rattle.visit_core.specs.VisitRule.{Event, heard, ended, lost, act_of, send_ask, ask_for, has_ended, IsLawful, MeetsOldLock}
+use Rattle.visit_core.specs.Terms.{VisitTerms, default_limits}
 use Rattle.page_script.specs.declared.line.Line.{Line}
 use Rattle.page_script.specs.declared.line.Line.TheVariants as lines
 use Rattle.page_script.specs.declared.line.PageLine.{PageLine}
@@ -32,14 +32,14 @@ use Rattle.page_script.specs.declared.line.PageLine.{PageLine}
 -- A page: its name, what its visit is about, how it ends, and its visit's past.
 pub record Page : Type 0 where
   pub name : List ℕ
-  pub terms : Terms
+  pub terms : VisitTerms
   pub ending : Ending
   pub past : List Event
 
 -- A request that was sent: by which page, counted from 0, at which moment, with which cookie drawn
 -- for it (0 where none was), how it was answered, and how many faults the keeper of the items had
 -- counted then.
-pub record Turn : Type 0 where
+pub record WorldTurn : Type 0 where
   pub page : ℕ
   pub moment : ℕ
   pub request : Request
@@ -52,7 +52,7 @@ pub record Turn : Type 0 where
 pub record World : Type 0 where
   pub limits : Limits
   pub pages : List Page
-  pub turns : List Turn
+  pub turns : List WorldTurn
 
 -- the world before the first line
 abbrev pub empty_world : World
@@ -63,26 +63,27 @@ empty_world = record {
 }
 
 -- the entry of a turn in the history of the items, where all pages are one caller
-abbrev pub entry_of : Turn → Entry
-entry_of turn = asked_entry 0 turn.moment turn.request turn.drawn turn.reply turn.faults
+abbrev pub entry_of_turn : WorldTurn → Entry
+entry_of_turn turn = asked_entry 0 turn.moment turn.request turn.drawn turn.reply turn.faults
 
 -- the history of the items
-abbrev pub history : List Turn → List Entry
-history turns = map entry_of turns
+abbrev pub history : List WorldTurn → List Entry
+history turns = map entry_of_turn turns
 
 -- the event of a turn in the past of its page
-abbrev pub event_of : Turn → Event
+abbrev pub event_of : WorldTurn → Event
 event_of turn = heard turn.moment turn.request (Reply turn.reply)
 
 -- ---- one step of a page
 
 -- what an ask draws behind these turns: each acquire draws one more than the acquire before it,
 -- from 1 on, and 0 past the last cookie
-abbrev pub drawn_for : List Turn → Ask → ℕ
+abbrev pub drawn_for : List WorldTurn → Ask → ℕ
 drawn_for turns ask = draw_of 1 most_cookie (draws_in (history turns)) ask
 
 -- the turn of the page with this number that sends this request at this moment, behind other turns
-pub record IsTurn (number t : ℕ) (sent : Request) (turns : List Turn) (turn : Turn) : Type 0 where
+pub record IsTurn (number t : ℕ) (sent : Request) (turns : List WorldTurn)
+    (turn : WorldTurn) : Type 0 where
   pub page : turn.page ≡ number
   pub moment : turn.moment ≡ t
   pub request : turn.request ≡ sent
@@ -90,7 +91,7 @@ pub record IsTurn (number t : ℕ) (sent : Request) (turns : List Turn) (turn : 
   pub fits : ReplyFits turn.reply
 
 -- the words for a request and its reply
-abbrev pub turn_words : Turn → List ℕ
+abbrev pub turn_words : WorldTurn → List ℕ
 turn_words turn = (ask_spelling turn.request.ask ++ codes " : ") ++ reply_spelling turn.reply
 
 -- the words for a page that runs: `run none`, or the first mark and the content
@@ -101,15 +102,15 @@ run_words (Some content) first = codes "run" then flag_word first then bytes_wor
 -- What a step of a page adds: events to its past, the turns that it asked for, and its words.
 pub record Added : Type 0 where
   pub events : List Event
-  pub asked : List Turn
+  pub asked : List WorldTurn
   pub words : List ℕ
 
 -- What a step of a page adds where its visit's act is this: a request is answered, and the answer
 -- is heard at once; a page that runs ends so in the same step; to wait, and to be over, changes
 -- nothing. (The numbers are the moment and the page's; the turns are those before the step.)
-abbrev pub Performs : Action → ℕ → ℕ → Ending → List Turn → Added → Type 0
+abbrev pub Performs : Action → ℕ → ℕ → Ending → List WorldTurn → Added → Type 0
 Performs (send request) t number ending turns adds =
-    (turn : Turn) × IsTurn number t request turns turn × (adds.events ≡ event_of turn ∷ [])
+    (turn : WorldTurn) × IsTurn number t request turns turn × (adds.events ≡ event_of turn ∷ [])
     × (adds.asked ≡ turn ∷ []) × (adds.words ≡ turn_words turn)
 Performs (wait_until moment) t number ending turns adds = (adds.events ≡ []) × (adds.asked ≡ [])
     × (adds.words ≡ codes "wait" then decimal moment)
@@ -135,7 +136,7 @@ pub record PageSteps (world : World) (t : ℕ) (name : List ℕ) (world' : World
   pub place : world.pages ≡ before ++ page ∷ behind
   pub named : page.name ≡ name
   pub events : List Event
-  pub asked : List Turn
+  pub asked : List WorldTurn
   pub words : List ℕ
   pub acts : Performs (act_of page.terms page.past t) t (length before) page.ending world.turns
       (record { events = events; asked = asked; words = words })
@@ -197,7 +198,7 @@ IsWorldRun script world output = Leads empty_world script world output
 -- ---- what holds in the worlds of a script
 
 -- the turns of the page with this number
-abbrev pub turns_of : ℕ → List Turn → List Turn
+abbrev pub turns_of : ℕ → List WorldTurn → List WorldTurn
 turns_of number turns = filter (λ turn. turn.page == number) turns
 
 -- the event is an answer
@@ -208,7 +209,7 @@ is_heard lost = false
 
 -- The page with this number follows the rule of its visit over its own past, and what it heard is
 -- its own turns, in order.
-pub record IsLawfulPage (turns : List Turn) (number : ℕ) (page : Page) : Type 0 where
+pub record IsLawfulPage (turns : List WorldTurn) (number : ℕ) (page : Page) : Type 0 where
   pub lawful : IsLawful page.terms page.past
   pub own : filter is_heard page.past ≡ map event_of (turns_of number turns)
 
@@ -220,11 +221,12 @@ IsLawfulWorld world = (before : List Page) (page : Page) (behind : List Page)
 -- The page with this number met a lock that is older than a page may run: its last event is the
 -- answer to its own ask that this lock is in the way, and the lock was in force at that place of
 -- the history, and as old as the answer says.
-pub record MetOldLock (turns : List Turn) (number : ℕ) (page : Page) (cookie : ℕ) : Type 0 where
+pub record MetOldLock (turns : List WorldTurn) (number : ℕ) (page : Page)
+    (cookie : ℕ) : Type 0 where
   pub met : MeetsOldLock page.terms page.past cookie
-  pub before : List Turn
-  pub turn : Turn
-  pub behind : List Turn
+  pub before : List WorldTurn
+  pub turn : WorldTurn
+  pub behind : List WorldTurn
   pub place : turns ≡ before ++ turn ∷ behind
   pub own : turn.page ≡ number
   pub last : turns_of number behind ≡ []

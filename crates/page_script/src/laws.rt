@@ -5,13 +5,13 @@ ghost use Rattle.std.specs.List.{AllByRecursion};
 ghost use Rattle.plain_words.specs.Words.{HasNo};
 ghost use Rattle.session_machine.specs.History.{nothing, IsLegal};
 ghost use Rattle.page_script.specs.declared.line.Line.{Line};
-ghost use Rattle.page_script.specs.Lines.{IsLine, LineFits};
+ghost use Rattle.page_script.specs.Lines.{IsScriptLine, LineFits};
 ghost use Rattle.page_script.specs.World.{World, history, WorldStep, Leads, IsWorldRun, IsLawfulWorld, PagesForceOldLocks};
 
 /// A text spells at most one line, and none where it holds a line feed.
 pub fn one_line()
-    ensures one { (text : List ℕ) (a b : Line) → IsLine text a → IsLine text b → a ≡ b }
-    ensures no_line_feed { (text : List ℕ) (line : Line) → IsLine text line → HasNo 10 text }
+    ensures one { (text : List ℕ) (a b : Line) → IsScriptLine text a → IsScriptLine text b → a ≡ b }
+    ensures no_line_feed { (text : List ℕ) (line : Line) → IsScriptLine text line → HasNo 10 text }
 {}
 
 /// A run of the world goes on by one line.

@@ -4,17 +4,17 @@
 
 mod laws;
 mod line;
+mod line_parts;
+mod line_reading;
 mod name;
 mod page;
 mod page_request;
-mod parts;
-mod reading;
 mod script;
 mod script_page;
-mod text;
+mod script_text;
 
 pub use laws::{one_line, pages_keep_their_rule, runs_go_on};
-pub use line::{Line, MOST_LINE, PageLine};
+pub use line::{Line, MOST_SCRIPT_LINE, PageLine};
+pub use line_reading::read_line;
 pub use name::Name;
-pub use reading::read_line;
 pub use script::{LineEnd, MOST_PAGES, Script};

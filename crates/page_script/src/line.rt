@@ -4,7 +4,7 @@ use asp_base::Bytes;
 use visit_core::{Ending, Limits, Need};
 
 /// The most bytes of a line, without its line feed.
-pub const MOST_LINE: usize = 65_536;
+pub const MOST_SCRIPT_LINE: usize = 65_536;
 
 /// What a `page` line says of a page.
 #[derive(Debug, PartialEq, Eq, Drop)]

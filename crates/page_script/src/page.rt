@@ -1,11 +1,11 @@
 //! A `page` line behind its first word.
 ghost use Rattle.std.specs.Prelude.{◌≡◌, ◌≢◌, ℕ, List, IfOk, IfSome, IfNone, MatchOption};
 ghost use Rattle.plain_words.specs.Words.{ReadsAs};
-ghost use Rattle.visit_core.specs.declared.terms.Need.{Need};
+ghost use Rattle.visit_core.specs.declared.visit_terms.Need.{Need};
 ghost use Rattle.page_script.specs.Lines.{ending_words};
-ghost use Rattle.page_script.specs.Parts.{IsEnding, IsKey, IsPage, IsPageHead, IsSave};
+ghost use Rattle.page_script.specs.LineParts.{IsEnding, IsKey, IsPage, IsPageHead, IsSave};
 
-use crate::parts::{read_need, read_number_then};
+use crate::line_parts::{read_need, read_number_then};
 use crate::{Name, PageLine};
 use asp_base::{Bytes, NoMemory};
 use asp_messages::{MOST_BODY, MOST_KEY, MOST_MINUTES};

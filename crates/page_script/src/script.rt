@@ -1,14 +1,14 @@
 //! A script: its pages, and the desk that they share.
 ghost use Rattle.std.specs.Prelude.{◌≡◌, ◌<◌, ◌++◌, ◌∷◌, [], ◌↔◌, length, IsTrue, MatchOption, OnOk, OnErr};
 ghost use Rattle.visit_core.specs.Terms.{LimitsFit};
-ghost use Rattle.page_script.specs.Places.{IsUnused, IsIndexOf};
+ghost use Rattle.page_script.specs.PagePlaces.{IsUnused, IsIndexOf};
 
 use crate::script_page::ScriptPage;
 use crate::{Line, Name, PageLine, read_line};
 use asp_base::NoMemory;
 use asp_messages::{MOST_COOKIE, or_undo};
-use desk::Desk;
 use keeper::Keeper;
+use plain_desk::PlainDesk;
 use std::alloc::Global;
 use visit_core::Limits;
 
@@ -31,7 +31,7 @@ pub enum LineEnd {
 #[derive(Drop)]
 pub struct Script<K> {
     alloc: Global,
-    desk: Desk<K>,
+    desk: PlainDesk<K>,
     pages: Vec<ScriptPage>,
     limits: Limits,
     is_over: bool,
@@ -71,12 +71,12 @@ impl<K: Keeper> Script<K> {
     ghost use Rattle.std.specs.List.{AllByRecursion};
     ghost use Rattle.keeper.specs.Items.{IsEmptyTold};
     ghost use Rattle.session_machine.specs.History.{nothing};
-    ghost use Rattle.shard_core.specs.Standing.{StandsFor};
+    ghost use Rattle.shard_core.specs.ShardStands.{StandsFor};
     ghost use Rattle.page_script.specs.declared.line.Line.{Line};
     ghost use Rattle.page_script.specs.Lines.{LineFits, PageFits};
     ghost use Rattle.page_script.specs.World.{empty_world, history, IsLawfulWorld, PagesForceOldLocks};
-    ghost use Rattle.page_script.specs.Standing.{Stands, IsAppended, IfTold, IfTells, IsOver, keeper_of};
-    ghost use Rattle.page_script.specs.Standing.{EachWorld, EachWorldStays, EachWorldTakes, EachWorldMayTake, NoWorldTakes, EachWorldTakesText, EachWorldMayTakeText, NoWorldTakesText};
+    ghost use Rattle.page_script.specs.ScriptStands.{ScriptStands, IsAppended, IfTold, IfTells, ScriptIsOver, keeper_of};
+    ghost use Rattle.page_script.specs.ScriptStands.{EachWorld, EachWorldStays, EachWorldTakes, EachWorldMayTake, NoWorldTakes, EachWorldTakesText, EachWorldMayTakeText, NoWorldTakesText};
 
     /// A script with no pages over a keeper with no items, whose cookies begin at 1. It takes no
     /// memory.
@@ -84,12 +84,12 @@ impl<K: Keeper> Script<K> {
         requires no_faults { K.count keeper ≡ 0 }
         requires empty { IsEmptyTold (K.told keeper) }
         ensures keeper { keeper_of result ≡ keeper }
-        ensures stands { Stands ⟦<K as Keeper>⟧ result empty_world }
-        ensures begun { IsOver result → ⊥ }
+        ensures stands { ScriptStands ⟦<K as Keeper>⟧ result empty_world }
+        ensures begun { ScriptIsOver result → ⊥ }
     {
         Script {
             alloc,
-            desk: Desk::new(alloc, keeper, 1, MOST_COOKIE),
+            desk: PlainDesk::new(alloc, keeper, 1, MOST_COOKIE),
             pages: Vec::new(alloc),
             limits: Limits::default(),
             is_over: false,
@@ -106,8 +106,8 @@ impl<K: Keeper> Script<K> {
         ensures unchanged { result ≡ LineEnd.NotALine → self.new ≡ self.old }
         ensures no_memory { result ≡ LineEnd.NoMemory
             → EachWorldStays ⟦<K as Keeper>⟧ self.old self.new }
-        ensures is_over { result ≡ LineEnd.NoMemory → IsOver self.new }
-        ensures goes_on { result ≡ LineEnd.Done → IsOver self.new → IsOver self.old }
+        ensures is_over { result ≡ LineEnd.NoMemory → ScriptIsOver self.new }
+        ensures goes_on { result ≡ LineEnd.Done → ScriptIsOver self.new → ScriptIsOver self.old }
         ensures keeper { keeper_of self.new ≡ keeper_of self.old }
     {
         if !is_free(&self.pages, &line.name) {
@@ -133,8 +133,8 @@ impl<K: Keeper> Script<K> {
         ensures unchanged { result ≡ LineEnd.NotALine → self.new ≡ self.old }
         ensures no_memory { result ≡ LineEnd.NoMemory
             → EachWorldMayTake ⟦<K as Keeper>⟧ self.old self.new (Line.Step t name) }
-        ensures is_over { result ≡ LineEnd.NoMemory → IsOver self.new }
-        ensures goes_on { result ≡ LineEnd.Done → IsOver self.new → IsOver self.old }
+        ensures is_over { result ≡ LineEnd.NoMemory → ScriptIsOver self.new }
+        ensures goes_on { result ≡ LineEnd.Done → ScriptIsOver self.new → ScriptIsOver self.old }
         ensures same { (result ≡ LineEnd.Done → ⊥) → out.new.items ≡ out.old.items }
         ensures floor { K.floor (keeper_of self.new) ≡ K.floor (keeper_of self.old) }
     {
@@ -162,8 +162,8 @@ impl<K: Keeper> Script<K> {
         ensures unchanged { result ≡ LineEnd.NotALine → self.new ≡ self.old }
         ensures no_memory { result ≡ LineEnd.NoMemory
             → EachWorldMayTake ⟦<K as Keeper>⟧ self.old self.new line }
-        ensures is_over { result ≡ LineEnd.NoMemory → IsOver self.new }
-        ensures goes_on { result ≡ LineEnd.Done → IsOver self.new → IsOver self.old }
+        ensures is_over { result ≡ LineEnd.NoMemory → ScriptIsOver self.new }
+        ensures goes_on { result ≡ LineEnd.Done → ScriptIsOver self.new → ScriptIsOver self.old }
         ensures same { (result ≡ LineEnd.Done → ⊥) → out.new.items ≡ out.old.items }
         ensures floor { K.floor (keeper_of self.new) ≡ K.floor (keeper_of self.old) }
     {
@@ -184,7 +184,7 @@ impl<K: Keeper> Script<K> {
         // appended.
         ensures done { result ≡ LineEnd.Done → EachWorldTakesText ⟦<K as Keeper>⟧ self.old
             self.new text.now (IsAppended out.old.items out.new.items) }
-        ensures goes_on { result ≡ LineEnd.Done → IsOver self.new → ⊥ }
+        ensures goes_on { result ≡ LineEnd.Done → ScriptIsOver self.new → ⊥ }
 
         // In no world that the script stands for may such a line follow; nothing changed.
         ensures not_a_line { result ≡ LineEnd.NotALine
@@ -194,8 +194,9 @@ impl<K: Keeper> Script<K> {
         // For want of memory each world stayed, or took the line without a print.
         ensures no_memory { result ≡ LineEnd.NoMemory
             → EachWorldMayTakeText ⟦<K as Keeper>⟧ self.old self.new text.now }
-        ensures is_over { result ≡ LineEnd.NoMemory → IsOver self.new }
-        ensures stays_over { IsOver self.old → (result ≡ LineEnd.NoMemory) × (self.new ≡ self.old) }
+        ensures is_over { result ≡ LineEnd.NoMemory → ScriptIsOver self.new }
+        ensures stays_over { ScriptIsOver self.old → (result ≡ LineEnd.NoMemory)
+            × (self.new ≡ self.old) }
         ensures same { (result ≡ LineEnd.Done → ⊥) → out.new.items ≡ out.old.items }
 
         // Each page follows the rule of its visit over its own past, and releases by force only a

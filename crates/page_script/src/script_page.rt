@@ -4,12 +4,12 @@ ghost use Rattle.visit_core.specs.Terms.{EndingFits};
 ghost use Rattle.page_script.specs.Endings.{ending_fits-prop};
 
 use crate::page_request::answer;
-use crate::text::{push_ask, push_over, push_reply, push_run, push_start, push_wait};
+use crate::script_text::{push_ask, push_over, push_reply, push_run, push_start, push_wait};
 use crate::{Name, PageLine};
 use asp_base::NoMemory;
 use asp_messages::Request;
-use desk::Desk;
 use keeper::Keeper;
+use plain_desk::PlainDesk;
 use std::alloc::Global;
 use visit_core::{Act, Ending, Heard, Limits, Visit};
 
@@ -27,17 +27,17 @@ impl ScriptPage {
     ghost use Rattle.std.specs.Prelude.{◌≡◌, ◌≤◌, ◌^◌, ℕ, List, [], ◌∷◌, ◌++◌, OnOk, OnErr};
     ghost use Rattle.asp_messages.specs.Appending.{Extends};
     ghost use Rattle.asp_messages.specs.Ranges.{RequestFits};
-    ghost use Rattle.visit_core.specs.Stages.{Sends, Runs};
+    ghost use Rattle.visit_core.specs.Stages.{VisitSends, Runs};
     ghost use Rattle.visit_core.specs.Terms.{LimitsFit};
     ghost use Rattle.page_script.specs.Lines.{PageFits};
-    ghost use Rattle.page_script.specs.World.{Turn, new_page, turns_of, step_line};
-    ghost use Rattle.page_script.specs.Standing.{PageStands, WillSend, EachStepsAt, EachMayStepAt, EachHasEnded, IsAppended};
+    ghost use Rattle.page_script.specs.World.{WorldTurn, new_page, turns_of, step_line};
+    ghost use Rattle.page_script.specs.ScriptStands.{PageStands, WillSend, EachStepsAt, EachMayStepAt, EachHasEnded, IsAppended};
 
     /// A page whose visit has not begun.
     pub fn new(limits: Limits, line: PageLine) -> ScriptPage
         requires limits { LimitsFit limits }
         requires line { PageFits line }
-        ensures { (number : ℕ) (turns : List Turn) → turns_of number turns ≡ []
+        ensures { (number : ℕ) (turns : List WorldTurn) → turns_of number turns ≡ []
             → PageStands turns number result (new_page limits line) }
     {
         ScriptPage {
@@ -50,14 +50,14 @@ impl ScriptPage {
     /// Sends the request that the visit sends at the moment `t`, hears the reply, and appends both.
     fn send<K: Keeper>(
         &mut self,
-        desk: &mut Desk<K>,
+        desk: &mut PlainDesk<K>,
         t: u64,
         request: Request,
         out: &mut Vec<u8>,
     ) -> Result<(), NoMemory>
         requires moment { t ≤ 2 ^ 62 }
         requires request { RequestFits request }
-        requires sends { Sends self.old.visit t }
+        requires sends { VisitSends self.old.visit t }
         requires will_send { WillSend self.old.visit t request }
         ensures ok { OnOk result (EachStepsAt ⟦<K as Keeper>⟧ t self.old desk.old
             self.new desk.new
@@ -90,7 +90,7 @@ impl ScriptPage {
     pub fn step<K: Keeper>(
         &mut self,
         alloc: Global,
-        desk: &mut Desk<K>,
+        desk: &mut PlainDesk<K>,
         t: u64,
         out: &mut Vec<u8>,
     ) -> Result<(), NoMemory>

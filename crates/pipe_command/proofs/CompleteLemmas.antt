@@ -7,13 +7,13 @@ use Rattle.asp_messages.specs.Stream.{Spelled, HasNoMessage, IsHopeless}
 use Rattle.asp_messages.proofs.RequestLemmas.{spelling_some, SpellsRequest-unique}
 use Rattle.keeper.specs.declared.keeping.Keeper as keepers
 use Rattle.stream_core.specs.Whole.{IsWholeInput}
-use Rattle.stream_run.specs.declared.ending.End.TheVariants as ends
-use Rattle.stream_run.specs.Ending.{IfFewer, IsComplete}
-use Rattle.stream_run.specs.Flow.{Flow}
-use Rattle.pipe_command.specs.declared.pipe.Verdict.TheVariants as verdicts
+use Rattle.command_loop.specs.declared.ending.RunEnd.TheVariants as ends
+use Rattle.command_loop.specs.Ending.{IfFewer, RunIsComplete}
+use Rattle.command_loop.specs.Flow.{Flow}
+use Rattle.pipe_command.specs.declared.pipe.PipeVerdict.TheVariants as verdicts
 use Rattle.pipe_command.specs.declared.responder.Responder.{Responder}
-use Rattle.pipe_command.specs.Responding.{Breaks, Closes, HasAnswered}
-use Rattle.pipe_command.specs.Run.{End, status_number}
+use Rattle.pipe_command.specs.Responding.{PipeBreaks, PipeCloses, HasAnswered}
+use Rattle.pipe_command.specs.PipeRun.{PipeEnd, status_of_pipe}
 use Rattle.pipe_command.proofs.EndingLemmas.{ghosts, hopeless_some}
 
 nothing_front : (a b : List ℕ) → a ++ b ≡ [] → a ≡ []
@@ -66,9 +66,9 @@ module _ {K : Type 0} (G : keepers.Ghosts K) (most : ℕ) (first now : Responder
       rest_whole front rest more has.progress.messages all has.progress.spelled whole
 
   broken_whole : (input whole last : List ℕ) (all : List Message)
-      → Closes G verdicts.Broken first now input whole last
+      → PipeCloses G verdicts.Broken first now input whole last
       ⊎ ((front : List ℕ) × (behind : List ℕ) × (more : Bool) × (input ≡ front ++ behind)
-      × (IsTrue more × Breaks G verdicts.Broken first now front whole last))
+      × (IsTrue more × PipeBreaks G verdicts.Broken first now front whole last))
       → Spelled SpellsRequest input all [] → ⊥
   broken_whole input whole last all (inl (closing, (rest, some, none, has))) spelled =
       let left = left_whole input [] rest whole all has
@@ -80,9 +80,9 @@ module _ {K : Type 0} (G : keepers.Ghosts K) (most : ℕ) (first now : Responder
       (subst (λ t. Spelled SpellsRequest t all []) is spelled) in
       hopeless_whole rest behind left.0 hopeless left.1
 
-  pub complete_run : (told : Option (List ℕ × List ℕ)) (end : End)
-      → IfFewer told most (IsComplete (ghosts G) first now f end) → IsWholeInput told most
-      → (status_number end ≡ 0) ⊎ (status_number end ≡ 6)
+  pub complete_run : (told : Option (List ℕ × List ℕ)) (end : PipeEnd)
+      → IfFewer told most (RunIsComplete (ghosts G) first now f end) → IsWholeInput told most
+      → (status_of_pipe end ≡ 0) ⊎ (status_of_pipe end ≡ 6)
   complete_run None end complete input = absurd input
   complete_run (Some told) (ends.Over verdicts.Whole) complete input = inl refl
   complete_run (Some told) (ends.Over verdicts.Broken) complete input =

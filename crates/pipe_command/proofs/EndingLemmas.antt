@@ -17,27 +17,27 @@ use Rattle.asp_messages.proofs.SentRequestLemmas.{request_spelled}
 use Rattle.keeper.specs.declared.keeping.Keeper as keepers
 use Rattle.lock_laws.proofs.LawLemmas.{LocksHold-of_legal}
 use Rattle.lock_laws.proofs.FaultLemmas.{faults-counted, no-counts}
-use Rattle.message_framing.specs.Held.{empty_reader}
+use Rattle.message_framing.specs.ReaderState.{empty_reader}
 use Rattle.percent_encoding.proofs.PercentLemmas.{IsByte}
 use Rattle.session_machine.specs.declared.entry.Entry.{Entry}
 use Rattle.session_machine.specs.declared.item.Item.{Item}
 use Rattle.session_machine.specs.History.{nothing}
 use Rattle.session_machine.specs.Profiles.{newest}
-use Rattle.shard_core.specs.Standing.{StandsFor}
+use Rattle.shard_core.specs.ShardStands.{StandsFor}
 use Rattle.stream_core.specs.Connection.{Connection}
-use Rattle.stream_run.specs.declared.consumer.Consumer.{Ghosts}
-use Rattle.stream_run.specs.declared.ending.End.TheVariants as ends
-use Rattle.stream_run.specs.Ending.{Ended, HasRoom, IsOver}
-use Rattle.stream_run.specs.Flow.{Flow}
+use Rattle.command_loop.specs.declared.consumer.Consumer.{Ghosts}
+use Rattle.command_loop.specs.declared.ending.RunEnd.TheVariants as ends
+use Rattle.command_loop.specs.Ending.{Ended, HasRoom, ConsumerIsOver}
+use Rattle.command_loop.specs.Flow.{Flow}
 use Rattle.pipe_command.specs.declared.pipe.Pipe.{Pipe}
-use Rattle.pipe_command.specs.declared.pipe.Verdict.{Verdict}
-use Rattle.pipe_command.specs.declared.pipe.Verdict.TheVariants as verdicts
+use Rattle.pipe_command.specs.declared.pipe.PipeVerdict.{PipeVerdict}
+use Rattle.pipe_command.specs.declared.pipe.PipeVerdict.TheVariants as verdicts
 use Rattle.pipe_command.specs.declared.responder.Responder.{Responder}
 use Rattle.pipe_command.specs.Giving.{given_body, given_head}
 use Rattle.pipe_command.specs.PlainRun.{closing, output_of, written_as}
-use Rattle.pipe_command.specs.Progress.{Progress, ProgressLast}
-use Rattle.pipe_command.specs.Responding.{Gave, GaveSo, HasAnswered, IsUnbegun, Lacks, Waits, Went, owing, state_of, unbegun}
-use Rattle.pipe_command.specs.Run.{End, EndsAs, IsRun, PipeFits, Reached, StopsBroken, NeverFails, TellsLocks, Wrote, WroteInPart, closing_in, owed_in}
+use Rattle.pipe_command.specs.PipeProgress.{Progress, ProgressLast}
+use Rattle.pipe_command.specs.Responding.{PipeGave, GaveSo, HasAnswered, IsUnbegun, PipeLacks, PipeWaits, PipeWent, owing, state_of_responder, unbegun}
+use Rattle.pipe_command.specs.PipeRun.{PipeEnd, PipeEndsAs, IsRun, PipeFits, PipeReached, StopsBroken, NeverFails, TellsLocks, Wrote, PipeWroteInPart, closing_in, owed_in}
 use Rattle.pipe_command.proofs.ResponderLemmas.{owed_of, hopeless_none, rest_waits}
 
 -- ---- a beginning
@@ -54,12 +54,12 @@ unbegun_first : (journal is_begun : Bool) → is_begun ≡ not journal
 unbegun_first false is_begun is = subst (λ b. IsUnbegun b false [] []) (sym is) tt
 unbegun_first true is_begun is = subst (λ b. IsUnbegun b true [] []) (sym is) (refl, refl, refl)
 
-pub Went-start : {K : Type 0} (G : keepers.Ghosts K) (r : Responder K) → PipeFits r.pipe
+pub PipeWent-start : {K : Type 0} (G : keepers.Ghosts K) (r : Responder K) → PipeFits r.pipe
     → r.is_begun ≡ not r.pipe.journal → r.stream ≡ record { reader = empty_reader }
     → StandsFor nothing 0 [] (G.told r.desk.keeper) (G.count r.desk.keeper)
     → r.desk.cookies ≡ record { next = r.pipe.first; last = most_cookie }
-    → r.clock ≡ record { next = r.pipe.start; step = r.pipe.step } → Went G r r [] []
-Went-start G r fits begun stream stands cookies clock =
+    → r.clock ≡ record { next = r.pipe.start; step = r.pipe.step } → PipeWent G r r [] []
+PipeWent-start G r fits begun stream stands cookies clock =
     let first : r.pipe.start ≡ step_moment r.pipe.start r.pipe.step 0 =
     let le = fits.start in omega arith in
     let high = fits.first in
@@ -132,12 +132,12 @@ room_more true count most is room = room
 room_more false count most is room = cc
 
 module _ {K : Type 0} (G : keepers.Ghosts K) where
-  abbrev pub ghosts : Ghosts (Responder K) Verdict
+  abbrev pub ghosts : Ghosts (Responder K) PipeVerdict
   ghosts = record {
-    went = Went G;
-    waits = Waits;
+    went = PipeWent G;
+    waits = PipeWaits;
     gave = GaveSo G;
-    lacks = Lacks G;
+    lacks = PipeLacks G;
     work = λ now. length now.stream.reader.held + unbegun now.is_begun;
     parts = λ now. (given_head now.given now.line.items, given_body now.given);
   }
@@ -147,25 +147,26 @@ module _ {K : Type 0} (G : keepers.Ghosts K) where
     abbrev KeepsFloor : Type 0
     KeepsFloor = G.floor now.desk.keeper ≡ G.floor first.desk.keeper
 
-    over_floor : (verdict : Verdict) (bytes whole last : List ℕ)
-        → IsOver ghosts most first now f.source' bytes verdict whole last → KeepsFloor
+    over_floor : (verdict : PipeVerdict) (bytes whole last : List ℕ)
+        → ConsumerIsOver ghosts most first now f.source' bytes verdict whole last → KeepsFloor
     over_floor verdicts.Whole bytes whole last (inl (closes, end, some)) = closes.1.floor
     over_floor verdicts.Broken bytes whole last (inl (closes, end, some)) = closes.1.3.floor
     over_floor verdicts.Whole bytes whole last (inr (more, breaks, room)) = absurd breaks.1
     over_floor verdicts.Broken bytes whole last (inr (more, breaks, room)) = breaks.1.1.2.floor
 
     part_floor : (bytes whole last : List ℕ)
-        → ((verdict : Verdict) × IsOver ghosts most first now f.source' bytes verdict whole last)
-        ⊎ Gave G first now bytes whole last → KeepsFloor
+        → ((verdict : PipeVerdict)
+        × ConsumerIsOver ghosts most first now f.source' bytes verdict whole last)
+        ⊎ PipeGave G first now bytes whole last → KeepsFloor
     part_floor bytes whole last (inl (verdict, over)) = over_floor verdict bytes whole last over
     part_floor bytes whole last (inr (rest, inl has)) = has.floor
     part_floor bytes whole last (inr (rest, inr (has, line))) = has.floor
 
-    lacks_floor : (bytes due : List ℕ) → Lacks G first now bytes due → KeepsFloor
+    lacks_floor : (bytes due : List ℕ) → PipeLacks G first now bytes due → KeepsFloor
     lacks_floor bytes due (rest, inl has) = has.floor
     lacks_floor bytes due (rest, inr (journal, (line, has))) = has.floor
 
-    pub floor_of : (end : End) → Ended ghosts most first now f end → KeepsFloor
+    pub floor_of : (end : PipeEnd) → Ended ghosts most first now f end → KeepsFloor
     floor_of (ends.Over verdict) run =
         over_floor verdict run.taken run.ends.0 run.ends.1 run.ends.2
     floor_of ends.ReadFault run = run.ends.1.2.floor
@@ -175,17 +176,18 @@ module _ {K : Type 0} (G : keepers.Ghosts K) where
 
   module _ (first now : Responder K) (f : Flow) where
     -- what the run gives
-    abbrev Gives : End → Type 0
+    abbrev Gives : PipeEnd → Type 0
     Gives end =
         IsRun G.can_count first.pipe f (G.told now.desk.keeper) (G.count now.desk.keeper) end
 
     -- how far it came, with this rest
     abbrev ProgressAt : List ℕ → List ℕ → List ℕ → Type 0
     ProgressAt bytes rest due =
-        Progress G.can_count first.pipe bytes due (record (state_of G now) { held = rest })
+        Progress G.can_count first.pipe bytes due
+        (record (state_of_responder G now) { held = rest })
 
     -- where it stood
-    abbrev reached : (bytes rest due : List ℕ) → ProgressAt bytes rest due → Reached
+    abbrev reached : (bytes rest due : List ℕ) → ProgressAt bytes rest due → PipeReached
     reached bytes rest due run = record {
       pipe = first.pipe;
       flow = f;
@@ -195,9 +197,9 @@ module _ {K : Type 0} (G : keepers.Ghosts K) where
       count = length bytes;
     }
 
-    by_run : (end : End) (ended : Ended ghosts first.pipe.most first now f end)
+    by_run : (end : PipeEnd) (ended : Ended ghosts first.pipe.most first now f end)
         (rest due : List ℕ) (run : ProgressAt ended.taken rest due)
-        → EndsAs end (reached ended.taken rest due run) → Gives end
+        → PipeEndsAs end (reached ended.taken rest due run) → Gives end
     by_run end ended rest due run how = record {
       bytes = ended.taken;
       messages = run.messages;
@@ -224,21 +226,21 @@ module _ {K : Type 0} (G : keepers.Ghosts K) where
     -- so many bytes of what is due for the last message were
     part_wrote : (bytes rest whole last : List ℕ) (n : ℕ)
         (run : ProgressLast G.can_count first.pipe bytes whole last
-        (record (state_of G now) { held = rest }))
+        (record (state_of_responder G now) { held = rest }))
         → n ≤ length last → Takes f.sink f.sink' (whole ++ take n last)
-        → WroteInPart (reached bytes rest (whole ++ last) run.progress) n
+        → PipeWroteInPart (reached bytes rest (whole ++ last) run.progress) n
     part_wrote bytes rest whole last n run le wrote =
         record { whole = whole; last = last; splits = run.parts; part = le; took = wrote }
 
     -- the rest of an input that is broken, with what closes it
-    module _ (end : End) (ended : Ended ghosts first.pipe.most first now f end)
+    module _ (end : PipeEnd) (ended : Ended ghosts first.pipe.most first now f end)
         (whole last : List ℕ) (Closed : List ℕ → List ℕ → Type 0)
         (closed : Closed whole last)
         (how : (rest : List ℕ) (run : ProgressAt ended.taken rest whole)
         → StopsBroken (reached ended.taken rest whole run)
         → Closed (owed_in (reached ended.taken rest whole run))
         (closing_in (reached ended.taken rest whole run))
-        → EndsAs end (reached ended.taken rest whole run))
+        → PipeEndsAs end (reached ended.taken rest whole run))
       where
         with_run : (rest : List ℕ) (has : HasAnswered G first now ended.taken rest whole)
             → last ≡ closing (output_of first.pipe.journal)
@@ -248,7 +250,8 @@ module _ {K : Type 0} (G : keepers.Ghosts K) where
             (subst (λ d. Closed d (closing (output_of first.pipe.journal))) has.progress.owed_is
             (subst (λ l. Closed whole l) is closed)))
 
-        broken_run : IsOver ghosts first.pipe.most first now f.source' ended.taken verdicts.Broken
+        broken_run : ConsumerIsOver ghosts first.pipe.most first now f.source' ended.taken
+            verdicts.Broken
             whole last → Gives end
         broken_run (inl (closes, at_end, some)) =
             let (is, (rest, more, none, has)) = closes in
@@ -261,10 +264,10 @@ module _ {K : Type 0} (G : keepers.Ghosts K) where
               room_more more (length ended.taken) first.pipe.most is_more room,
             )
 
-    over_run : (verdict : Verdict)
+    over_run : (verdict : PipeVerdict)
         (ended : Ended ghosts first.pipe.most first now f (ends.Over verdict))
         (whole last : List ℕ)
-        → IsOver ghosts first.pipe.most first now f.source' ended.taken verdict whole last
+        → ConsumerIsOver ghosts first.pipe.most first now f.source' ended.taken verdict whole last
         → Takes f.sink f.sink' (whole ++ last) → Gives (ends.Over verdict)
     over_run verdicts.Whole ended whole last (inl (closes, at_end, some)) wrote =
         by_run (ends.Over verdicts.Whole) ended [] whole closes.1.progress (
@@ -282,7 +285,7 @@ module _ {K : Type 0} (G : keepers.Ghosts K) where
         (λ rest run stops closed. (stops, closed)) over
 
     gave_run : (ended : Ended ghosts first.pipe.most first now f ends.WriteFault)
-        (whole last : List ℕ) (n : ℕ) → Gave G first now ended.taken whole last
+        (whole last : List ℕ) (n : ℕ) → PipeGave G first now ended.taken whole last
         → n ≤ length last → Takes f.sink f.sink' (whole ++ take n last) → Gives ends.WriteFault
     gave_run ended whole last n (rest, inl has) le wrote =
         by_run ends.WriteFault ended rest (whole ++ last) has.progress.progress
@@ -301,9 +304,9 @@ module _ {K : Type 0} (G : keepers.Ghosts K) where
 
     part_run : (ended : Ended ghosts first.pipe.most first now f ends.WriteFault)
         (whole last : List ℕ) (n : ℕ)
-        → ((verdict : Verdict)
-        × IsOver ghosts first.pipe.most first now f.source' ended.taken verdict whole last)
-        ⊎ Gave G first now ended.taken whole last
+        → ((verdict : PipeVerdict)
+        × ConsumerIsOver ghosts first.pipe.most first now f.source' ended.taken verdict whole last)
+        ⊎ PipeGave G first now ended.taken whole last
         → 0 < length last → n ≤ length last → Takes f.sink f.sink' (whole ++ take n last)
         → Gives ends.WriteFault
     part_run ended whole last n (inl (verdicts.Whole, inl (closes, at_end, some))) long le wrote =
@@ -317,7 +320,7 @@ module _ {K : Type 0} (G : keepers.Ghosts K) where
     part_run ended whole last n (inr gave) long le wrote = gave_run ended whole last n gave le wrote
 
     lacks_run : (ended : Ended ghosts first.pipe.most first now f ends.NoMemory) (due : List ℕ)
-        → Lacks G first now ended.taken due → Takes f.sink f.sink' due → Gives ends.NoMemory
+        → PipeLacks G first now ended.taken due → Takes f.sink f.sink' due → Gives ends.NoMemory
     lacks_run ended due (rest, inl has) wrote =
         by_run ends.NoMemory ended rest due has.progress
         (inl (all_wrote ended.taken rest due has.progress wrote))
@@ -328,7 +331,7 @@ module _ {K : Type 0} (G : keepers.Ghosts K) where
               (subst (Takes f.sink f.sink') (sym (append-nil due)) wrote),
         ))
 
-    ended_run : (end : End) → Ended ghosts first.pipe.most first now f end → Gives end
+    ended_run : (end : PipeEnd) → Ended ghosts first.pipe.most first now f end → Gives end
     ended_run (ends.Over verdict) ended =
         over_run verdict ended ended.ends.0 ended.ends.1 ended.ends.2 ended.ends.3
     ended_run ends.ReadFault ended =
@@ -354,7 +357,7 @@ module _ {K : Type 0} (G : keepers.Ghosts K) where
         )
 
   pub run_of : (pipe : Pipe) (first now : Responder K) (f : Flow) → first.pipe ≡ pipe
-      → (end : End) → Ended ghosts pipe.most first now f end
+      → (end : PipeEnd) → Ended ghosts pipe.most first now f end
       → IsRun G.can_count pipe f (G.told now.desk.keeper) (G.count now.desk.keeper) end
   run_of pipe first now f is_pipe end ended =
       subst (λ (p : Pipe). IsRun G.can_count p f (G.told now.desk.keeper)

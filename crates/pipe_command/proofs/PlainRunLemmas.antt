@@ -11,12 +11,12 @@ use Rattle.asp_messages.specs.Fields.{most_cookie}
 use Rattle.asp_messages.specs.ReplyText.{reply_text}
 use Rattle.session_machine.specs.declared.entry.Entry.{Entry}
 use Rattle.session_machine.specs.declared.entry.Deed.TheVariants.{Asked}
-use Rattle.desk.specs.Draws.{draws, draw_of, deed_draws, draws_in}
+use Rattle.plain_desk.specs.Draws.{draws, draw_of, deed_draws, draws_in}
 use Rattle.session_machine.specs.Profiles.{newest}
 use Rattle.journal_text.specs.WritingText.{entry_line, head_line, journal_text}
 use Rattle.stream_core.specs.Whole.{written}
 use Rattle.pipe_command.specs.PlainRun.{Asking, asking_of, askings, replies_to}
-use Rattle.pipe_command.specs.Progress.{total_draws}
+use Rattle.pipe_command.specs.PipeProgress.{total_draws}
 
 pub askings-push : (start step first k j : ℕ) (ms : List Message) (m : Message)
     → askings start step first k j (ms ++ m ∷ []) ≡ askings start step first k j ms ++ askings start

@@ -12,8 +12,8 @@ use Rattle.asp_messages.specs.Ranges.{RequestFits}
 use Rattle.asp_messages.specs.RequestSpelling.{SpellsRequest}
 use Rattle.asp_messages.proofs.StreamLemmas.{Spelled-push, Spelled-append}
 use Rattle.asp_messages.proofs.RequestLemmas.{spelled_fits}
-use Rattle.desk.specs.Draws.{draw_of, draws_in}
-use Rattle.desk.specs.Standing.{DeskStandsFor}
+use Rattle.plain_desk.specs.Draws.{draw_of, draws_in}
+use Rattle.plain_desk.specs.DeskStands.{DeskStandsFor}
 use Rattle.session_machine.specs.declared.entry.Entry.{Entry}
 use Rattle.session_machine.specs.declared.entry.Deed.TheVariants.{Asked}
 use Rattle.session_machine.specs.History.{nothing}
@@ -21,10 +21,10 @@ use Rattle.stream_core.specs.Whole.{IfFit}
 use Rattle.pipe_command.specs.declared.pipe.Output.{Output}
 use Rattle.pipe_command.specs.declared.pipe.Output.TheVariants as outputs
 use Rattle.pipe_command.specs.declared.pipe.Pipe.{Pipe}
-use Rattle.pipe_command.specs.declared.responder.Answer.{Answer}
-use Rattle.pipe_command.specs.Answering.{Answers, AnswersMessage, IsAnswered, ServerState, owed_for, entry_of}
+use Rattle.pipe_command.specs.declared.responder.Response.{Response}
+use Rattle.pipe_command.specs.Answering.{AnswersAtMoment, AnswersMessage, IsAnsweredInto, ServerState, owed_for, entry_of_answer}
 use Rattle.pipe_command.specs.PlainRun.{Asking, asking_of, askings, output_of, written_as}
-use Rattle.pipe_command.specs.Progress.{Progress, ProgressLast, total_draws}
+use Rattle.pipe_command.specs.PipeProgress.{Progress, ProgressLast, total_draws}
 use Rattle.pipe_command.proofs.PlainRunLemmas.{askings-push, draws_in-plain, written-unfit, written-fit, journal_text-push}
 
 pub fit_of_spelling : (front : List ℕ) (m : Message) → SpellsRequest front m → IfFit m RequestFits
@@ -49,7 +49,7 @@ Progress-fed CanCount pipe bytes due piece s run = record {
 }
 
 -- what is due with one message more
-owed-unfit : (output : Output) (start step first faults : ℕ) (answer : Answer) (ms : List Message)
+owed-unfit : (output : Output) (start step first faults : ℕ) (answer : Response) (ms : List Message)
     (list : List Entry) → answer.reply ≡ replies.Bad
     → map asking_of list ≡ askings start step first 0 0 ms
     → written_as output (ms ++ Unfit ∷ []) list ≡ written_as output ms list ++ owed_for output Unfit
@@ -60,22 +60,22 @@ owed-unfit outputs.Replies start step first faults answer ms list bad plain =
 owed-unfit outputs.Journal start step first faults answer ms list bad plain =
     sym (append-nil (written_as outputs.Journal ms list))
 
-owed-fit : (output : Output) (start step first faults : ℕ) (answer : Answer) (ms : List Message)
+owed-fit : (output : Output) (start step first faults : ℕ) (answer : Response) (ms : List Message)
     (list : List Entry) (r : Request) → map asking_of list ≡ askings start step first 0 0 ms
-    → written_as output (ms ++ Fit r ∷ []) (list ++ entry_of r answer faults ∷ [])
+    → written_as output (ms ++ Fit r ∷ []) (list ++ entry_of_answer r answer faults ∷ [])
     ≡ written_as output ms list ++ owed_for output (Fit r) answer faults
 owed-fit outputs.Replies start step first faults answer ms list r plain =
-    written-fit start step first 0 0 ms list r (entry_of r answer faults) plain
+    written-fit start step first 0 0 ms list r (entry_of_answer r answer faults) plain
 owed-fit outputs.Journal start step first faults answer ms list r plain =
-    journal_text-push 0 list (entry_of r answer faults)
+    journal_text-push 0 list (entry_of_answer r answer faults)
 
 module _ (CanCount : ℕ → Type 0) (pipe : Pipe) (bytes due front : List ℕ) (s s' : ServerState)
-    (answer : Answer) (run : Progress CanCount pipe bytes due (record s {
+    (answer : Response) (run : Progress CanCount pipe bytes due (record s {
       held =
           front ++ s'.held;
     }))
   where
-    clock-next : (m : Message) → Answers CanCount m s s' answer
+    clock-next : (m : Message) → AnswersAtMoment CanCount m s s' answer
         → s'.clock.next ≡ step_moment pipe.start pipe.step (length (run.messages ++ m ∷ []))
     clock-next m one =
         let now =
@@ -86,7 +86,7 @@ module _ (CanCount : ℕ → Type 0) (pipe : Pipe) (bytes due front : List ℕ) 
         ∙ ap (λ k. step_moment pipe.start k (length run.messages + 1)) run.step
         ∙ ap (step_moment pipe.start pipe.step) more
 
-    goes_on-unfit : SpellsRequest front Unfit → Answers CanCount Unfit s s' answer
+    goes_on-unfit : SpellsRequest front Unfit → AnswersAtMoment CanCount Unfit s s' answer
         → ProgressLast CanCount pipe bytes due
         (owed_for (output_of pipe.journal) Unfit answer s'.desk.faults) s'
     goes_on-unfit spells one =
@@ -128,19 +128,20 @@ module _ (CanCount : ℕ → Type 0) (pipe : Pipe) (bytes due front : List ℕ) 
           };
         }
 
-    goes_on-fit : (r : Request) → SpellsRequest front (Fit r) → Answers CanCount (Fit r) s s' answer
+    goes_on-fit : (r : Request) → SpellsRequest front (Fit r)
+        → AnswersAtMoment CanCount (Fit r) s s' answer
         → ProgressLast CanCount pipe bytes due
         (owed_for (output_of pipe.journal) (Fit r) answer s'.desk.faults) s'
     goes_on-fit r spells one =
         let next : Progress CanCount pipe bytes
         (due ++ owed_for (output_of pipe.journal) (Fit r) answer s'.desk.faults) s' = record {
           messages = run.messages ++ Fit r ∷ [];
-          list = run.list ++ entry_of r answer s'.desk.faults ∷ [];
+          list = run.list ++ entry_of_answer r answer s'.desk.faults ∷ [];
           spelled =
               Spelled-push SpellsRequest bytes run.messages front s'.held
               (Fit r) run.spelled spells;
           plain =
-              map-append asking_of run.list (entry_of r answer s'.desk.faults ∷ [])
+              map-append asking_of run.list (entry_of_answer r answer s'.desk.faults ∷ [])
               ∙ ap (λ t. t ++ (0, answer.moment, Asked r, answer.drawn) ∷ []) run.plain
               ∙ ap (λ t. asking t answer.drawn) moment
               ∙ ap (asking (step_moment pipe.start pipe.step (0 + length run.messages))) drawn_is
@@ -162,7 +163,7 @@ module _ (CanCount : ℕ → Type 0) (pipe : Pipe) (bytes due front : List ℕ) 
             heard = run.messages;
             message = Fit r;
             before = run.list;
-            own = entry_of r answer s'.desk.faults ∷ [];
+            own = entry_of_answer r answer s'.desk.faults ∷ [];
             messages_are = refl;
             list_is = refl;
             plain = run.plain;
@@ -173,7 +174,7 @@ module _ (CanCount : ℕ → Type 0) (pipe : Pipe) (bytes due front : List ℕ) 
       where
         stands : (answer.drawn ≡ draw_of pipe.first s.desk.cookies.last (draws_in run.list) r.ask)
             × DeskStandsFor CanCount pipe.first nothing 0
-            (run.list ++ entry_of r answer s'.desk.faults ∷ [])
+            (run.list ++ entry_of_answer r answer s'.desk.faults ∷ [])
             s'.desk
         stands = one.replies.history pipe.first run.list run.desk
 
@@ -199,7 +200,7 @@ module _ (CanCount : ℕ → Type 0) (pipe : Pipe) (bytes due front : List ℕ) 
 pub goes_on : (CanCount : ℕ → Type 0) (pipe : Pipe) (bytes due front : List ℕ) (Gives : List ℕ
     → Type 0)
     (s s' : ServerState) (m : Message)
-    (one : IsAnswered CanCount (output_of pipe.journal) Gives m s s') → SpellsRequest front m
+    (one : IsAnsweredInto CanCount (output_of pipe.journal) Gives m s s') → SpellsRequest front m
     → Progress CanCount pipe bytes due (record s { held = front ++ s'.held })
     → ProgressLast CanCount pipe bytes due
     (owed_for (output_of pipe.journal) m one.answer s'.desk.faults) s'

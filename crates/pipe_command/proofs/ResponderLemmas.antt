@@ -9,17 +9,17 @@ use Rattle.asp_messages.proofs.RequestLemmas.{spelling_some}
 use Rattle.session_machine.specs.Profiles.{newest}
 use Rattle.journal_text.specs.WritingText.{journal_text}
 use Rattle.keeper.specs.declared.keeping.Keeper.{Ghosts}
-use Rattle.message_framing.specs.Held.{Held, TakesMessage, broken, fed, waiting}
+use Rattle.message_framing.specs.ReaderState.{ReaderState, TakesMessage, broken, fed, waiting}
 use Rattle.stream_core.specs.Connection.{Connection}
 use Rattle.pipe_command.specs.declared.pipe.Output.{Output}
 use Rattle.pipe_command.specs.declared.pipe.Output.TheVariants as outputs
 use Rattle.pipe_command.specs.declared.pipe.Pipe.{Pipe}
 use Rattle.pipe_command.specs.declared.responder.Responder.{Responder}
-use Rattle.pipe_command.specs.Answering.{IsAnswered, owed_for}
+use Rattle.pipe_command.specs.Answering.{IsAnsweredInto, owed_for}
 use Rattle.pipe_command.specs.PlainRun.{output_of}
-use Rattle.pipe_command.specs.Progress.{Progress}
-use Rattle.desk.specs.Standing.{state_of as desk_state}
-use Rattle.pipe_command.specs.Responding.{Gave, HasAnswered, HasAnsweredLast, IsRest, IsUnbegun, Keeps, Lacks, Waits, Went, given, owing, state_of, unbegun}
+use Rattle.pipe_command.specs.PipeProgress.{Progress}
+use Rattle.plain_desk.specs.DeskStands.{desk_state}
+use Rattle.pipe_command.specs.Responding.{PipeGave, HasAnswered, HasAnsweredLast, IsRest, IsUnbegun, Keeps, PipeLacks, PipeWaits, PipeWent, given, owing, state_of_responder, unbegun}
 use Rattle.pipe_command.proofs.ProgressLemmas.{Progress-fed, goes_on}
 
 -- the first line of a journal from place 0
@@ -47,13 +47,14 @@ begun_already false journal bytes due is = cc
 -- ---- what is held
 
 -- the rest of a reader that is not broken is held
-pub rest_held : (reader : Held) (rest : List ℕ) → IsFalse reader.is_broken → IsRest reader rest
+pub rest_held : (reader : ReaderState) (rest : List ℕ) → IsFalse reader.is_broken
+    → IsRest reader rest
     → rest ≡ reader.held
 rest_held reader rest whole (inl (same, is)) = is
 rest_held reader rest whole (inr (wrong, hopeless)) = cc
 
 -- the rest of a reader that answers that it is broken can become no message
-pub rest_hopeless : (reader : Held) (rest : List ℕ) → IsRest reader rest
+pub rest_hopeless : (reader : ReaderState) (rest : List ℕ) → IsRest reader rest
     → IsTrue reader.is_broken ⊎ IsHopeless SpellsRequest reader.held → IsHopeless SpellsRequest rest
 rest_hopeless reader rest (inr (wrong, hopeless)) either = hopeless
 rest_hopeless reader rest (inl (whole, is)) (inl wrong) = cc
@@ -66,7 +67,7 @@ pub hopeless_none : (rest : List ℕ) → IsHopeless SpellsRequest rest
 hopeless_none rest hopeless front back m is s = hopeless [] front back m (append-nil rest ∙ is) s
 
 -- where no message is whole in what is held, the rest has none in front
-pub rest_waits : (reader : Held) (rest : List ℕ) → IsRest reader rest
+pub rest_waits : (reader : ReaderState) (rest : List ℕ) → IsRest reader rest
     → (IsFalse reader.is_broken → HasNoMessage SpellsRequest reader.held)
     → HasNoMessage SpellsRequest rest
 rest_waits reader rest (inl (whole, is)) none =
@@ -74,28 +75,29 @@ rest_waits reader rest (inl (whole, is)) none =
 rest_waits reader rest (inr (wrong, hopeless)) none = hopeless_none rest hopeless
 
 -- what is held that was fed a piece
-pub fed_held : (old new : Held) (piece : List ℕ) → new ≡ fed old piece → IsFalse old.is_broken
+pub fed_held : (old new : ReaderState) (piece : List ℕ) → new ≡ fed old piece
+    → IsFalse old.is_broken
     → new.held ≡ old.held ++ piece
 fed_held old new piece is whole =
-    ap (λ (h : Held). h.held) is ∙ ap (λ b. cond b [] (old.held ++ piece)) whole
+    ap (λ (h : ReaderState). h.held) is ∙ ap (λ b. cond b [] (old.held ++ piece)) whole
 
 -- a reader that waits has the same rest
-pub waiting_rest : (old new : Held) (rest : List ℕ) → new ≡ waiting old → IsRest old rest
+pub waiting_rest : (old new : ReaderState) (rest : List ℕ) → new ≡ waiting old → IsRest old rest
     → IsRest new rest
-waiting_rest old new rest is rested = subst (λ (h : Held). IsRest h rest) (sym is) rested
+waiting_rest old new rest is rested = subst (λ (h : ReaderState). IsRest h rest) (sym is) rested
 
 -- one that is broken has a rest that can become no message
-pub broken_rest : (new : Held) (rest : List ℕ) → new ≡ broken → IsHopeless SpellsRequest rest
+pub broken_rest : (new : ReaderState) (rest : List ℕ) → new ≡ broken → IsHopeless SpellsRequest rest
     → IsRest new rest
 broken_rest new rest is hopeless =
-    inr (ap (λ (h : Held). h.is_broken) is, hopeless)
+    inr (ap (λ (h : ReaderState). h.is_broken) is, hopeless)
 
 -- one that was fed a piece has a longer rest
-pub fed_rest : (old new : Held) (rest piece : List ℕ) → new ≡ fed old piece
+pub fed_rest : (old new : ReaderState) (rest piece : List ℕ) → new ≡ fed old piece
     → IsFalse old.is_broken → IsRest old rest → IsRest new (rest ++ piece)
 fed_rest old new rest piece is whole rested =
     inl (
-      ap (λ (h : Held). h.is_broken) is ∙ whole,
+      ap (λ (h : ReaderState). h.is_broken) is ∙ whole,
       ap (λ r. r ++ piece) (rest_held old rest whole rested)
           ∙ sym (fed_held old new piece is whole),
     )
@@ -147,7 +149,7 @@ module _ {K : Type 0} (G : Ghosts K) (first : Responder K) where
     pipe = has.pipe;
     floor = has.floor;
     progress = Progress-fed G.can_count first.pipe bytes due piece
-        (record (state_of G now) { held = rest }) has.progress;
+        (record (state_of_responder G now) { held = rest }) has.progress;
   }
 
   -- a message was taken from the front of the rest, and answered
@@ -159,17 +161,18 @@ module _ {K : Type 0} (G : Ghosts K) (first : Responder K) where
     where
       before : HasAnswered G first mid bytes (front ++ new.stream.reader.held) due
       before = same_rest mid bytes rest (front ++ new.stream.reader.held) due due
-          (parts ∙ ap (λ (h : Held). front ++ h.held) (sym keeps.reader)) refl
+          (parts ∙ ap (λ (h : ReaderState). front ++ h.held) (sym keeps.reader)) refl
           (of_same old mid bytes rest due pipe desk clock has)
 
       pub has_answered : (Gives : List ℕ → Type 0)
-          (one : IsAnswered G.can_count (output_of mid.pipe.journal) Gives m (state_of G mid)
-          (state_of G new))
+          (one : IsAnsweredInto G.can_count (output_of mid.pipe.journal) Gives m
+          (state_of_responder G mid)
+          (state_of_responder G new))
           → HasAnsweredLast G first new bytes new.stream.reader.held due
           (owed_for (output_of mid.pipe.journal) m one.answer (G.count new.desk.keeper))
       has_answered Gives = subst (λ (p : Pipe).
-          (one : IsAnswered G.can_count (output_of p.journal) Gives m (state_of G mid)
-          (state_of G new))
+          (one : IsAnsweredInto G.can_count (output_of p.journal) Gives m (state_of_responder G mid)
+          (state_of_responder G new))
           → HasAnsweredLast G first new bytes new.stream.reader.held due
           (owed_for (output_of p.journal) m one.answer (G.count new.desk.keeper)))
           (sym before.pipe)
@@ -177,16 +180,17 @@ module _ {K : Type 0} (G : Ghosts K) (first : Responder K) where
             pipe = keeps.pipe ∙ before.pipe;
             floor = keeps.floor ∙ before.floor;
             progress =
-                goes_on G.can_count first.pipe bytes due front Gives (state_of G mid)
-                (state_of G new)
+                goes_on G.can_count first.pipe bytes due front Gives (state_of_responder G mid)
+                (state_of_responder G new)
                 m one spells before.progress;
           })
 
       -- there was no memory for it, or for its line
       pub lacks_line : IsTrue mid.pipe.journal
           → (new ≡ mid)
-          ⊎ IsAnswered G.can_count outputs.Journal (λ due. ⊤) m (state_of G mid) (state_of G new)
-          → Lacks G first new bytes due
+          ⊎ IsAnsweredInto G.can_count outputs.Journal (λ due. ⊤) m (state_of_responder G mid)
+          (state_of_responder G new)
+          → PipeLacks G first new bytes due
       lacks_line journal (inl same) = (
         rest,
         inl (of_same mid new bytes rest due (ap (λ (r : Responder K). r.pipe) same)
@@ -206,11 +210,13 @@ module _ {K : Type 0} (G : Ghosts K) (first : Responder K) where
           )
         where
           by_output : (output : Output) → output_of mid.pipe.journal ≡ output
-              → (one : IsAnswered G.can_count output (λ due. ⊤) m (state_of G mid) (state_of G new))
+              → (one : IsAnsweredInto G.can_count output (λ due. ⊤) m (state_of_responder G mid)
+              (state_of_responder G new))
               → HasAnsweredLast G first new bytes new.stream.reader.held due
               (owed_for output m one.answer (G.count new.desk.keeper))
           by_output output is = subst (λ (o : Output).
-              (one : IsAnswered G.can_count o (λ due. ⊤) m (state_of G mid) (state_of G new))
+              (one : IsAnsweredInto G.can_count o (λ due. ⊤) m (state_of_responder G mid)
+              (state_of_responder G new))
               → HasAnsweredLast G first new bytes new.stream.reader.held due
               (owed_for o m one.answer (G.count new.desk.keeper))) is
               (has_answered (λ due. ⊤))
@@ -218,7 +224,7 @@ module _ {K : Type 0} (G : Ghosts K) (first : Responder K) where
   -- nothing was answered for want of memory
   pub lacks_all : (now : Responder K) (bytes rest due : List ℕ)
       → HasAnswered G first now bytes rest due
-      → Lacks G first now bytes due
+      → PipeLacks G first now bytes due
   lacks_all now bytes rest due has = (rest, inl has)
 
   -- the parts of what is due are forgotten
@@ -239,7 +245,7 @@ module _ {K : Type 0} (G : Ghosts K) (first : Responder K) where
   -- ---- one step
 
   module _ (old : Responder K) (taken : Connection) (new : Responder K) (bytes due : List ℕ)
-      (m : Message) (went : Went G first old bytes due) (begun : IsTrue old.is_begun)
+      (m : Message) (went : PipeWent G first old bytes due) (begun : IsTrue old.is_begun)
       (whole : IsTrue old.stream.reader.is_broken → ⊥)
       (took : TakesMessage SpellsRequest old.stream.reader taken.reader m)
       (keeps : Keeps G (record old { stream = taken }) new)
@@ -256,9 +262,11 @@ module _ {K : Type 0} (G : Ghosts K) (first : Responder K) where
       has_before = owed_of old bytes went.0 due begun went.2
 
       -- a message was answered
-      pub step_did : IsAnswered G.can_count (output_of old.pipe.journal) (λ due. given new ≡ due) m
-          (state_of G (record old { stream = taken })) (state_of G new)
-          → Went G first new bytes (due ++ given new) × Gave G first new bytes due (given new)
+      pub step_did : IsAnsweredInto G.can_count (output_of old.pipe.journal)
+          (λ due. given new ≡ due) m
+          (state_of_responder G (record old { stream = taken })) (state_of_responder G new)
+          → PipeWent G first new bytes (due ++ given new)
+          × PipeGave G first new bytes due (given new)
       step_did one =
           let all = has_answered old (record old { stream = taken }) new bytes went.0 due took.front
           m
@@ -267,7 +275,7 @@ module _ {K : Type 0} (G : Ghosts K) (first : Responder K) where
           subst (λ d. HasAnsweredLast G first new bytes new.stream.reader.held due d)
           (sym one.gives) all in
           let sound : IsFalse new.stream.reader.is_broken =
-          ap (λ (h : Held). h.is_broken) keeps.reader ∙ took.whole ∙ parts_of.0 in (
+          ap (λ (h : ReaderState). h.is_broken) keeps.reader ∙ took.whole ∙ parts_of.0 in (
             (
               new.stream.reader.held,
               inl (sound, refl),
@@ -282,9 +290,9 @@ module _ {K : Type 0} (G : Ghosts K) (first : Responder K) where
       -- there was no memory to answer it, or for its line
       pub step_lacks : IsTrue old.pipe.journal
           → (new ≡ record old { stream = taken })
-          ⊎ IsAnswered G.can_count outputs.Journal (λ due. ⊤) m
-          (state_of G (record old { stream = taken })) (state_of G new)
-          → Lacks G first new bytes due
+          ⊎ IsAnsweredInto G.can_count outputs.Journal (λ due. ⊤) m
+          (state_of_responder G (record old { stream = taken })) (state_of_responder G new)
+          → PipeLacks G first new bytes due
       step_lacks journal either =
           lacks_line old (record old { stream = taken }) new bytes went.0 due took.front m
           has_before refl refl refl parts_of.1 took.spells keeps journal either
@@ -293,8 +301,8 @@ module _ {K : Type 0} (G : Ghosts K) (first : Responder K) where
   pub begin_did : (old new : Responder K) (bytes due : List ℕ) → new.pipe ≡ old.pipe
       → new.desk ≡ old.desk → new.clock ≡ old.clock → new.stream ≡ old.stream
       → IsFalse old.is_begun → IsTrue new.is_begun → given new ≡ journal_text newest 0 [] ++ []
-      → Went G first old bytes due
-      → Went G first new bytes (due ++ given new) × Gave G first new bytes due (given new)
+      → PipeWent G first old bytes due
+      → PipeWent G first new bytes (due ++ given new) × PipeGave G first new bytes due (given new)
   begin_did old new bytes due pipe desk clock stream owes begun gives (rest, is, has, none) =
       let first_line = gives ∙ append-nil (journal_text newest 0 []) in
       let (journal, no_bytes, no_due) =
@@ -318,7 +326,7 @@ module _ {K : Type 0} (G : Ghosts K) (first : Responder K) where
 
   module _ (old new : Responder K) (bytes due : List ℕ) (pipe : new.pipe ≡ old.pipe)
       (desk : new.desk ≡ old.desk) (clock : new.clock ≡ old.clock)
-      (went : Went G first old bytes due)
+      (went : PipeWent G first old bytes due)
     where
       -- nothing changed but the bytes held
       has_now : IsTrue old.is_begun → HasAnswered G first new bytes went.0 due
@@ -326,8 +334,9 @@ module _ {K : Type 0} (G : Ghosts K) (first : Responder K) where
           (owed_of old bytes went.0 due begun went.2)
 
       -- a piece was fed
-      pub feed_went : (piece : List ℕ) → Waits true old → new.is_begun ≡ old.is_begun
-          → new.stream.reader ≡ fed old.stream.reader piece → Went G first new (bytes ++ piece) due
+      pub feed_went : (piece : List ℕ) → PipeWaits true old → new.is_begun ≡ old.is_begun
+          → new.stream.reader ≡ fed old.stream.reader piece
+          → PipeWent G first new (bytes ++ piece) due
       feed_went piece waits begun is = (
         went.0 ++ piece,
         fed_rest old.stream.reader new.stream.reader went.0 piece is (waits.whole refl) went.1,
@@ -337,14 +346,15 @@ module _ {K : Type 0} (G : Ghosts K) (first : Responder K) where
       )
 
       -- there was no memory for a piece
-      pub feed_lacks : (piece : List ℕ) → Waits true old → Lacks G first new (bytes ++ piece) due
+      pub feed_lacks : (piece : List ℕ) → PipeWaits true old
+          → PipeLacks G first new (bytes ++ piece) due
       feed_lacks piece waits =
           lacks_all new (bytes ++ piece) (went.0 ++ piece) due
           (has_fed new bytes went.0 due piece (has_now waits.is_begun))
 
       -- no message is whole
       pub step_waits : IsTrue old.is_begun → new.is_begun ≡ old.is_begun
-          → new.stream.reader ≡ waiting old.stream.reader → Went G first new bytes due
+          → new.stream.reader ≡ waiting old.stream.reader → PipeWent G first new bytes due
       step_waits begun same is = (
         went.0,
         waiting_rest old.stream.reader new.stream.reader went.0 is went.1,
@@ -353,7 +363,7 @@ module _ {K : Type 0} (G : Ghosts K) (first : Responder K) where
       )
 
       -- there was no memory for a message
-      pub step_lacks_all : IsTrue old.is_begun → Lacks G first new bytes due
+      pub step_lacks_all : IsTrue old.is_begun → PipeLacks G first new bytes due
       step_lacks_all begun = lacks_all new bytes went.0 due (has_now begun)
 
       module _ (hopeless : IsTrue old.stream.reader.is_broken
@@ -361,7 +371,7 @@ module _ {K : Type 0} (G : Ghosts K) (first : Responder K) where
         where
           -- the bytes can become no message, and no more may follow
           pub step_broken : new.is_begun ≡ old.is_begun → new.stream.reader ≡ broken
-              → Went G first new bytes due
+              → PipeWent G first new bytes due
           step_broken same is = (
             went.0,
             broken_rest new.stream.reader went.0 is
@@ -377,7 +387,7 @@ module _ {K : Type 0} (G : Ghosts K) (first : Responder K) where
               (went.0, rest_hopeless old.stream.reader went.0 went.1 hopeless, has_now begun)
 
       -- the input ended behind a message
-      pub finish_whole : Waits true old → old.stream.reader.held ≡ []
+      pub finish_whole : PipeWaits true old → old.stream.reader.held ≡ []
           → HasAnswered G first new bytes [] due
       finish_whole waits none =
           same_rest new bytes went.0 [] due due
@@ -385,7 +395,7 @@ module _ {K : Type 0} (G : Ghosts K) (first : Responder K) where
           (has_now waits.is_begun)
 
       -- or inside one
-      pub finish_broken : Waits true old → (old.stream.reader.held ≡ [] → ⊥)
+      pub finish_broken : PipeWaits true old → (old.stream.reader.held ≡ [] → ⊥)
           → (rest : List ℕ) × (rest ≢ []) × HasNoMessage SpellsRequest rest
           × HasAnswered G first new bytes rest due
       finish_broken waits some =
@@ -404,7 +414,7 @@ pub step_smaller : {K : Type 0} (G : Ghosts K) (old : Responder K) (taken : Conn
     → length new.stream.reader.held + unbegun new.is_begun
     < length old.stream.reader.held + unbegun old.is_begun
 step_smaller G old taken new m took keeps =
-    let held = ap (λ (h : Held). length h.held) keeps.reader in
+    let held = ap (λ (h : ReaderState). length h.held) keeps.reader in
     let begun = ap unbegun keeps.is_begun in
     omega (
       arith,

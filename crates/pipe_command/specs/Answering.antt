@@ -6,16 +6,16 @@ use Rattle.asp_messages.specs.declared.request.Message.{Message}
 use Rattle.asp_messages.specs.declared.request.Message.TheVariants.{Fit, Unfit}
 use Rattle.asp_messages.specs.declared.reply.Reply.TheVariants.{Bad}
 use Rattle.asp_messages.specs.ReplyText.{reply_text}
-use Rattle.desk.specs.Draws.{draw_of, draws_in}
-use Rattle.desk.specs.Standing.{DeskState, DeskStandsFor}
+use Rattle.plain_desk.specs.Draws.{draw_of, draws_in}
+use Rattle.plain_desk.specs.DeskStands.{DeskState, DeskStandsFor}
 use Rattle.session_machine.specs.Profiles.{newest}
 use Rattle.journal_text.specs.WritingText.{entry_line}
 use Rattle.session_machine.specs.declared.entry.Entry.{Entry}
 use Rattle.session_machine.specs.History.{nothing}
-use Rattle.shard_core.specs.Standing.{asked_entry}
+use Rattle.shard_core.specs.ShardStands.{asked_entry}
 use Rattle.pipe_command.specs.declared.pipe.Output.{Output}
 use Rattle.pipe_command.specs.declared.pipe.Output.TheVariants.{Replies, Journal}
-use Rattle.pipe_command.specs.declared.responder.Answer.{Answer}
+use Rattle.pipe_command.specs.declared.responder.Response.{Response}
 
 -- A server: the bytes held, the state of its desk, the clock.
 pub record ServerState : Type 0 where
@@ -24,22 +24,23 @@ pub record ServerState : Type 0 where
   pub clock : Ticking
 
 -- the entry of a request that was answered so, behind which the keeper counts so many faults
-abbrev pub entry_of : Request → Answer → ℕ → Entry
-entry_of r answer faults = asked_entry 0 answer.moment r answer.drawn answer.reply faults
+abbrev pub entry_of_answer : Request → Response → ℕ → Entry
+entry_of_answer r answer faults = asked_entry 0 answer.moment r answer.drawn answer.reply faults
 
 -- A request was answered: behind each history that the desk stands for, its entry makes a history
 -- that it stands for, and its cookie is the next by counting.
 pub record AnswersRequest (CanCount : ℕ → Type 0) (r : Request) (old new : ServerState)
-    (answer : Answer) : Type 0 where
+    (answer : Response) : Type 0 where
   pub history : (first : ℕ) (list : List Entry)
       → DeskStandsFor CanCount first nothing 0 list old.desk
       → (answer.drawn ≡ draw_of first old.desk.cookies.last (draws_in list) r.ask)
-      × DeskStandsFor CanCount first nothing 0 (list ++ entry_of r answer new.desk.faults ∷ [])
+      × DeskStandsFor CanCount first nothing 0
+      (list ++ entry_of_answer r answer new.desk.faults ∷ [])
       new.desk
   pub last : new.desk.cookies.last ≡ old.desk.cookies.last
 
 -- a message was answered; one that is no request changes nothing
-abbrev pub AnswersMessage : (ℕ → Type 0) → Message → ServerState → ServerState → Answer → Type 0
+abbrev pub AnswersMessage : (ℕ → Type 0) → Message → ServerState → ServerState → Response → Type 0
 AnswersMessage CanCount (Fit r) old new answer = AnswersRequest CanCount r old new answer
 AnswersMessage CanCount Unfit old new answer =
     (answer.reply ≡ Bad) × (new.desk ≡ old.desk)
@@ -52,7 +53,8 @@ pub record Ticks (old new : Ticking) : Type 0 where
   pub step : new.step ≡ old.step
 
 -- A message was answered at the clock's next moment.
-pub record Answers (CanCount : ℕ → Type 0) (m : Message) (old new : ServerState) (answer : Answer)
+pub record AnswersAtMoment (CanCount : ℕ → Type 0) (m : Message) (old new : ServerState)
+    (answer : Response)
     : Type 0 where
   pub moment : answer.moment ≡ old.clock.next
   pub ticks : Ticks old.clock new.clock
@@ -61,14 +63,14 @@ pub record Answers (CanCount : ℕ → Type 0) (m : Message) (old new : ServerSt
 
 -- what is owed for a message that was answered: its reply, or its entry's line, where it has an
 -- entry
-abbrev pub owed_for : Output → Message → Answer → ℕ → List ℕ
+abbrev pub owed_for : Output → Message → Response → ℕ → List ℕ
 owed_for Replies m answer faults = reply_text answer.reply
-owed_for Journal (Fit r) answer faults = entry_line newest (entry_of r answer faults)
+owed_for Journal (Fit r) answer faults = entry_line newest (entry_of_answer r answer faults)
 owed_for Journal Unfit answer faults = []
 
 -- A message was answered, and what is owed for it was given so.
-pub record IsAnswered (CanCount : ℕ → Type 0) (output : Output) (Gives : List ℕ → Type 0)
+pub record IsAnsweredInto (CanCount : ℕ → Type 0) (output : Output) (Gives : List ℕ → Type 0)
     (m : Message) (old new : ServerState) : Type 0 where
-  pub answer : Answer
-  pub answers : Answers CanCount m old new answer
+  pub answer : Response
+  pub answers : AnswersAtMoment CanCount m old new answer
   pub gives : Gives (owed_for output m answer new.desk.faults)

@@ -6,17 +6,17 @@ use Rattle.journal_replay.specs.Replay as replay
 use Rattle.keeper.specs.declared.keeping.Keeper.{Ghosts}
 use Rattle.keeper.specs.declared.ran.Ran.{Ran}
 use Rattle.load_generator.specs.declared.load.Load.{Load}
-use Rattle.load_generator.specs.Run.{IsLoad}
+use Rattle.load_generator.specs.LoadRun.{IsLoad}
 use Rattle.script_runner.specs.Drive as drive
 use Rattle.session_id.specs.Identifiers.{text_of}
 use Rattle.session_machine.specs.declared.entry.Entry.{Entry}
 use Rattle.session_machine.specs.declared.profile.Profile.{Profile}
 use Rattle.stream_core.specs.Whole.{IsWholeInput}
-use Rattle.stream_run.specs.Flow.{Flow}
+use Rattle.command_loop.specs.Flow.{Flow}
 use Rattle.pipe_command.specs.declared.pipe.Pipe.{Pipe}
-use Rattle.pipe_command.specs.declared.words.Command.{Command}
-use Rattle.pipe_command.specs.declared.words.Command.TheVariants as commands
-use Rattle.pipe_command.specs.Run as pipe
+use Rattle.pipe_command.specs.declared.command_words.Command.{Command}
+use Rattle.pipe_command.specs.declared.command_words.Command.TheVariants as commands
+use Rattle.pipe_command.specs.PipeRun as pipe
 
 -- a fact of a run of `pipe` or `trace`
 abbrev pub IfPipe : Command → (Pipe → Type 0) → Type 0
@@ -42,7 +42,7 @@ module _ {S K : Type 0} (G : Ghosts K) (seen : Seen S K) where
   -- `replay` is one replay; `drive` is one run of a page script, and has status 3 on no script;
   -- `id` reads nothing, and writes the identifier and a line feed.
   abbrev pub Does : Command → Type 0
-  Does (commands.Pipe run) = (end : pipe.End) × (seen.result.status ≡ pipe.status_number end)
+  Does (commands.Pipe run) = (end : pipe.PipeEnd) × (seen.result.status ≡ pipe.status_of_pipe end)
       × pipe.IsRun G.can_count run seen.flow
       (G.told seen.result.keeper) (G.count seen.result.keeper) end
   Does (commands.Load load) = (seen.source' ≡ seen.source)
@@ -53,11 +53,11 @@ module _ {S K : Type 0} (G : Ghosts K) (seen : Seen S K) where
         faults = G.count seen.result.keeper;
       })
   Does commands.Replay = (seen.result.keeper ≡ seen.keeper)
-      × ((end : replay.End) × (seen.result.status ≡ replay.status_number end)
+      × ((end : replay.ReplayEnd) × (seen.result.status ≡ replay.status_of_replay end)
       × replay.IsReplay most_input seen.flow.source seen.flow.source' seen.flow.sink
       seen.flow.sink' end)
   Does commands.Drive = (seen.result.status ≡ 3 → drive.TellsScript seen.flow.source → ⊥)
-      × ((end : drive.End) × (seen.result.status ≡ drive.status_number end)
+      × ((end : drive.ScriptEnd) × (seen.result.status ≡ drive.status_of_script end)
       × drive.IsDrive G.can_count most_input seen.flow
       (G.told seen.result.keeper) (G.count seen.result.keeper) end)
   Does (commands.Id bytes) = (seen.source' ≡ seen.source) × (seen.result.keeper ≡ seen.keeper)

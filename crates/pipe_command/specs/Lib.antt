@@ -1,9 +1,9 @@
 pub mod Path
-pub mod Words
+pub mod CommandWords
 pub mod PlainRun
 pub mod Answering
 pub mod Giving
-pub mod Run
-pub mod Progress
+pub mod PipeRun
+pub mod PipeProgress
 pub mod Responding
 pub mod Commands

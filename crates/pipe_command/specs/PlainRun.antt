@@ -8,7 +8,7 @@ use Rattle.asp_messages.specs.declared.reply.Reply.{Reply}
 use Rattle.asp_messages.specs.declared.reply.Reply.TheVariants.{Bad}
 use Rattle.asp_messages.specs.Fields.{most_cookie}
 use Rattle.asp_messages.specs.ReplyText.{reply_text}
-use Rattle.desk.specs.Draws.{draws, draw_of}
+use Rattle.plain_desk.specs.Draws.{draws, draw_of}
 use Rattle.session_machine.specs.Profiles.{newest}
 use Rattle.journal_text.specs.WritingText.{journal_text}
 use Rattle.session_machine.specs.declared.entry.Entry.{Entry}

@@ -4,20 +4,20 @@ use Rattle.asp_messages.specs.RequestSpelling.{SpellsRequest}
 use Rattle.asp_messages.specs.Stream.{HasNoMessage, IsHopeless}
 use Rattle.session_machine.specs.Profiles.{newest}
 use Rattle.journal_text.specs.WritingText.{journal_text}
-use Rattle.desk.specs.Standing.{state_of as desk_state}
+use Rattle.plain_desk.specs.DeskStands.{desk_state}
 use Rattle.keeper.specs.declared.keeping.Keeper.{Ghosts}
-use Rattle.message_framing.specs.Held.{Held}
-use Rattle.stream_run.specs.Feeding.{Going, GoesOn, OverAnyhow, OverAtEnd}
-use Rattle.pipe_command.specs.declared.pipe.Verdict.{Verdict}
-use Rattle.pipe_command.specs.declared.pipe.Verdict.TheVariants.{Whole, Broken}
+use Rattle.message_framing.specs.ReaderState.{ReaderState}
+use Rattle.command_loop.specs.Feeding.{Going, GoesOn, OverAnyhow, OverAtEnd}
+use Rattle.pipe_command.specs.declared.pipe.PipeVerdict.{PipeVerdict}
+use Rattle.pipe_command.specs.declared.pipe.PipeVerdict.TheVariants.{Whole, Broken}
 use Rattle.pipe_command.specs.declared.responder.Responder.{Responder}
 use Rattle.asp_messages.specs.declared.request.Message.{Message}
-use Rattle.pipe_command.specs.declared.responder.Answer.{Answer}
+use Rattle.pipe_command.specs.declared.responder.Response.{Response}
 use Rattle.pipe_command.specs.declared.pipe.Output.{Output}
-use Rattle.pipe_command.specs.Answering.{ServerState, Answers, IsAnswered}
+use Rattle.pipe_command.specs.Answering.{ServerState, AnswersAtMoment, IsAnsweredInto}
 use Rattle.pipe_command.specs.Giving.{given_body, given_head}
 use Rattle.pipe_command.specs.PlainRun.{closing, output_of}
-use Rattle.pipe_command.specs.Progress.{Progress, ProgressLast}
+use Rattle.pipe_command.specs.PipeProgress.{Progress, ProgressLast}
 
 -- what was given last
 abbrev pub given : {K : Type 0} → Responder K → List ℕ
@@ -25,7 +25,7 @@ given now = given_head now.given now.line.items ++ given_body now.given
 
 -- the bytes behind the messages that were taken: those that are held, or, where the stream is
 -- broken, some that can become no message
-abbrev pub IsRest : Held → List ℕ → Type 0
+abbrev pub IsRest : ReaderState → List ℕ → Type 0
 IsRest reader rest = (IsFalse reader.is_broken × (rest ≡ reader.held))
     ⊎ (IsTrue reader.is_broken × IsHopeless SpellsRequest rest)
 
@@ -51,7 +51,7 @@ unbegun false = 1
 
 -- all that can be done with the bytes held was done: no message is whole; if more bytes could
 -- follow, they may be fed
-pub record Waits {K : Type 0} (more : Bool) (now : Responder K) : Type 0 where
+pub record PipeWaits {K : Type 0} (more : Bool) (now : Responder K) : Type 0 where
   pub is_begun : IsTrue now.is_begun
   pub may_feed : IsTrue now.stream.reader.may_feed
   pub none : IsFalse now.stream.reader.is_broken → HasNoMessage SpellsRequest now.stream.reader.held
@@ -59,23 +59,24 @@ pub record Waits {K : Type 0} (more : Bool) (now : Responder K) : Type 0 where
 
 module _ {K : Type 0} (G : Ghosts K) where
   -- the server's state
-  abbrev pub state_of : Responder K → ServerState
-  state_of now = record {
+  abbrev pub state_of_responder : Responder K → ServerState
+  state_of_responder now = record {
     held = now.stream.reader.held;
     desk = desk_state G now.desk;
     clock = now.clock;
   }
 
   -- the message was answered, from one state of the server to the next
-  abbrev pub AnswersMessage : Message → Responder K → Responder K → Answer → Type 0
-  AnswersMessage message old new answer =
-      Answers G.can_count message (state_of old) (state_of new) answer
+  abbrev pub ResponderAnswers : Message → Responder K → Responder K → Response → Type 0
+  ResponderAnswers message old new answer =
+      AnswersAtMoment G.can_count message (state_of_responder old) (state_of_responder new) answer
 
   -- it was, and what is owed for it satisfies this
   abbrev pub LeavesAnswered : Output → (List ℕ → Type 0) → Message → Responder K → Responder K
       → Type 0
   LeavesAnswered output gives message old new =
-      IsAnswered G.can_count output gives message (state_of old) (state_of new)
+      IsAnsweredInto G.can_count output gives message (state_of_responder old)
+      (state_of_responder new)
 
   -- What answering leaves as it was.
   pub record Keeps (old new : Responder K) : Type 0 where
@@ -90,7 +91,7 @@ module _ {K : Type 0} (G : Ghosts K) where
     pub pipe : now.pipe ≡ first.pipe
     pub floor : G.floor now.desk.keeper ≡ G.floor first.desk.keeper
     pub progress : Progress G.can_count first.pipe bytes owed
-        (record (state_of now) { held = rest })
+        (record (state_of_responder now) { held = rest })
 
   -- The same, and what is owed is in two parts: for the messages before the last, and for the last.
   pub record HasAnsweredLast (first now : Responder K) (bytes rest whole last : List ℕ) : Type 0
@@ -98,43 +99,47 @@ module _ {K : Type 0} (G : Ghosts K) where
       pub pipe : now.pipe ≡ first.pipe
       pub floor : G.floor now.desk.keeper ≡ G.floor first.desk.keeper
       pub progress : ProgressLast G.can_count first.pipe bytes whole last
-          (record (state_of now) { held = rest })
+          (record (state_of_responder now) { held = rest })
 
   -- ---- the consumer
 
-  abbrev pub Went : Responder K → Responder K → List ℕ → List ℕ → Type 0
-  Went first now bytes owed = (rest : List ℕ) × IsRest now.stream.reader rest
+  abbrev pub PipeWent : Responder K → Responder K → List ℕ → List ℕ → Type 0
+  PipeWent first now bytes owed = (rest : List ℕ) × IsRest now.stream.reader rest
       × HasAnswered first now bytes rest (owing now.is_begun owed)
       × IsUnbegun now.is_begun first.pipe.journal bytes owed
 
-  abbrev pub Gave : Responder K → Responder K → List ℕ → List ℕ → List ℕ → Type 0
-  Gave first now bytes whole last = (rest : List ℕ)
+  abbrev pub PipeGave : Responder K → Responder K → List ℕ → List ℕ → List ℕ → Type 0
+  PipeGave first now bytes whole last = (rest : List ℕ)
       × (HasAnsweredLast first now bytes rest whole last
       ⊎ (HasAnswered first now bytes rest (whole ++ last)
       × GaveFirstLine first.pipe.journal bytes whole last))
 
   -- the rest can become no message
-  abbrev pub Breaks : Verdict → Responder K → Responder K → List ℕ → List ℕ → List ℕ → Type 0
-  Breaks Whole first now bytes whole last = ⊥
-  Breaks Broken first now bytes whole last = (last ≡ closing (output_of first.pipe.journal))
+  abbrev pub PipeBreaks : PipeVerdict → Responder K → Responder K → List ℕ → List ℕ → List ℕ
+      → Type 0
+  PipeBreaks Whole first now bytes whole last = ⊥
+  PipeBreaks Broken first now bytes whole last = (last ≡ closing (output_of first.pipe.journal))
       × ((rest : List ℕ) × IsHopeless SpellsRequest rest × HasAnswered first now bytes rest whole)
 
   -- the input ended behind a message, or inside one
-  abbrev pub Closes : Verdict → Responder K → Responder K → List ℕ → List ℕ → List ℕ → Type 0
-  Closes Whole first now bytes whole last = (last ≡ []) × HasAnswered first now bytes [] whole
-  Closes Broken first now bytes whole last = (last ≡ closing (output_of first.pipe.journal))
+  abbrev pub PipeCloses : PipeVerdict → Responder K → Responder K → List ℕ → List ℕ → List ℕ
+      → Type 0
+  PipeCloses Whole first now bytes whole last = (last ≡ []) × HasAnswered first now bytes [] whole
+  PipeCloses Broken first now bytes whole last = (last ≡ closing (output_of first.pipe.journal))
       × ((rest : List ℕ) × (rest ≢ []) × HasNoMessage SpellsRequest rest
       × HasAnswered first now bytes rest whole)
 
   -- what was given last, as it goes on: with the next message, or over
-  abbrev pub GaveSo : Going Verdict → Responder K → Responder K → List ℕ → List ℕ → List ℕ → Type 0
-  GaveSo GoesOn first now bytes whole last = Gave first now bytes whole last
+  abbrev pub GaveSo : Going PipeVerdict → Responder K → Responder K → List ℕ → List ℕ → List ℕ
+      → Type 0
+  GaveSo GoesOn first now bytes whole last = PipeGave first now bytes whole last
   GaveSo (OverAnyhow more verdict) first now bytes whole last =
-      IsTrue more × Breaks verdict first now bytes whole last
-  GaveSo (OverAtEnd verdict) first now bytes whole last = Closes verdict first now bytes whole last
+      IsTrue more × PipeBreaks verdict first now bytes whole last
+  GaveSo (OverAtEnd verdict) first now bytes whole last = PipeCloses verdict first now bytes whole
+      last
 
   -- all that is owed was given, or, in a journal, all but the last line
-  abbrev pub Lacks : Responder K → Responder K → List ℕ → List ℕ → Type 0
-  Lacks first now bytes owed = (rest : List ℕ) × (HasAnswered first now bytes rest owed
+  abbrev pub PipeLacks : Responder K → Responder K → List ℕ → List ℕ → Type 0
+  PipeLacks first now bytes owed = (rest : List ℕ) × (HasAnswered first now bytes rest owed
       ⊎ (IsTrue first.pipe.journal × ((line : List ℕ)
       × HasAnsweredLast first now bytes rest owed line)))

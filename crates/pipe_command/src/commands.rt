@@ -2,13 +2,13 @@
 ghost use Rattle.std.specs.Prelude.{◌≡◌, ◌↔◌, ◌≤◌, None, IfSome, map, string_bytes};
 ghost use Rattle.asp_base.specs.Causes.{Rose};
 ghost use Rattle.keeper.specs.Items.{IsEmptyTold};
-ghost use Rattle.stream_run.specs.Flow.{flow};
+ghost use Rattle.command_loop.specs.Flow.{flow};
 ghost use Rattle.pipe_command.specs.Commands.{Completes, Does};
-ghost use Rattle.pipe_command.specs.Words.{command_of};
+ghost use Rattle.pipe_command.specs.CommandWords.{command_of};
 
+use crate::command_words::{Command, command_of};
 use crate::identifiers::write_id;
 use crate::pipe_run::run_pipe;
-use crate::words::{Command, command_of};
 use asp_base::{MOST_INPUT, Sink, Source, status};
 use journal_replay::run_replay;
 use keeper::{Keeper, Ran};

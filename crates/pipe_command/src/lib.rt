@@ -2,16 +2,16 @@
 //! `replay`, `drive`, `load` and `id`, over a keeper that is handed in.
 #![tactic(auto)]
 
+mod command_words;
 mod commands;
 mod identifiers;
 mod path;
 mod pipe;
 mod pipe_run;
 mod responder;
-mod words;
 
+pub use command_words::{Command, command_of};
 pub use commands::command;
 pub use path::path_of;
-pub use pipe::{End, Pipe, Verdict};
+pub use pipe::{Pipe, PipeEnd, PipeVerdict};
 pub use pipe_run::run_pipe;
-pub use words::{Command, command_of};

@@ -2,10 +2,10 @@
 ghost use Rattle.std.specs.Prelude.{◌≡◌, map, option_map, string_bytes, IfSome};
 ghost use Rattle.pipe_command.specs.Commands.{IfLoad, IfPipe};
 ghost use Rattle.pipe_command.specs.Path.{path_of};
-ghost use Rattle.pipe_command.specs.Run.{PipeFits};
-ghost use Rattle.pipe_command.specs.Words.{stored_at, stored_of};
+ghost use Rattle.pipe_command.specs.PipeRun.{PipeFits};
+ghost use Rattle.pipe_command.specs.CommandWords.{stored_at, stored_of};
 
-use crate::words::{Command, pipe_named};
+use crate::command_words::{Command, pipe_named};
 
 /// The command, where PATH is not empty.
 fn stored_at(path: &str, command: Option<Command>) -> Option<Command>
@@ -16,7 +16,7 @@ fn stored_at(path: &str, command: Option<Command>) -> Option<Command>
 
 /// The command of `drive PATH`, `pipe START STEP FIRST PATH` or `trace START STEP FIRST PATH`. It
 /// takes no memory.
-#[tactic(auto, unfolding(crate::specs::Words::stored_of, crate::specs::Words::pipe_of))]
+#[tactic(auto, unfolding(crate::specs::CommandWords::stored_of, crate::specs::CommandWords::pipe_of))]
 pub fn stored_of(words: &[String]) -> Option<Command>
     ensures fits { IfSome result (λ command. IfPipe command PipeFits) }
     ensures load { IfSome result (λ command. IfLoad command (λ load. ⊥)) }

@@ -3,7 +3,7 @@ ghost use Rattle.std.specs.Prelude.{◌≡◌};
 ghost use Rattle.pipe_command.specs.PlainRun.{output_of};
 
 use asp_base::status;
-use stream_run::Status;
+use command_loop::Status;
 
 /// What a run of `pipe` is told.
 #[derive(Clone, Copy, Debug, PartialEq, Eq)]
@@ -44,7 +44,7 @@ impl Pipe {
 
 /// What the input of a run was.
 #[derive(Clone, Copy, Debug, PartialEq, Eq, Drop)]
-pub enum Verdict {
+pub enum PipeVerdict {
     /// It was whole messages, and each was answered.
     Whole,
     /// It was no whole messages.
@@ -52,17 +52,17 @@ pub enum Verdict {
 }
 
 /// How a run ends.
-pub type End = stream_run::End<Verdict>;
+pub type PipeEnd = command_loop::RunEnd<PipeVerdict>;
 
-impl Status for Verdict {
-    ghost use Rattle.pipe_command.specs.Run.{verdict_number};
+impl Status for PipeVerdict {
+    ghost use Rattle.pipe_command.specs.PipeRun.{pipe_verdict_status};
 
-    ghost number = { verdict_number };
+    ghost number = { pipe_verdict_status };
 
     fn number(&self) -> u8 {
         match self {
-            Verdict::Whole => status::DONE,
-            Verdict::Broken => status::NOT_WHOLE,
+            PipeVerdict::Whole => status::DONE,
+            PipeVerdict::Broken => status::NOT_WHOLE,
         }
     }
 }

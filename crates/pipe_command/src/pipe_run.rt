@@ -3,15 +3,15 @@ ghost use Rattle.std.specs.Prelude.{◌≡◌, ◌⊎◌, ◌≤◌};
 ghost use Rattle.asp_base.specs.Causes.{Rose};
 ghost use Rattle.keeper.specs.Items.{IsEmptyTold};
 ghost use Rattle.stream_core.specs.Whole.{IsWholeInput};
-ghost use Rattle.stream_run.specs.Flow.{flow};
-ghost use Rattle.pipe_command.specs.Run.{End, PipeFits, IsRun, status_number};
+ghost use Rattle.command_loop.specs.Flow.{flow};
+ghost use Rattle.pipe_command.specs.PipeRun.{PipeEnd, PipeFits, IsRun, status_of_pipe};
 
 use crate::pipe::Pipe;
 use crate::responder::Responder;
 use asp_base::{Sink, Source};
+use command_loop::run;
 use keeper::{Keeper, Ran};
 use std::alloc::Global;
-use stream_run::run;
 
 /// Answers the requests on the source, one after the other, writes the replies or the journal of
 /// what was done, and hands the keeper back. It waits for nobody, and returns.
@@ -31,7 +31,7 @@ pub fn run_pipe<S: Source, T: Sink, K: Keeper>(
     requires empty { IsEmptyTold (K.told keeper) }
 
     // There is one ending, whose number is the status, and one run that ended so.
-    ensures ran { (end : End) × (result.status ≡ status_number end)
+    ensures ran { (end : PipeEnd) × (result.status ≡ status_of_pipe end)
         × IsRun K.can_count pipe
         (flow (S.told source.old) (S.told source.new) (T.taken sink.old) (T.taken sink.new))
         (K.told result.keeper) (K.count result.keeper) end }

@@ -8,26 +8,26 @@ ghost use Rattle.stream_core.specs.Whole.{IfFit};
 ghost use Rattle.pipe_command.specs.declared.pipe.Output.TheVariants as outputs;
 ghost use Rattle.pipe_command.specs.Giving.{given_body, given_head};
 ghost use Rattle.pipe_command.specs.PlainRun.{closing, output_of};
-ghost use Rattle.pipe_command.specs.Responding.{AnswersMessage, Keeps, LeavesAnswered, Went, given};
-ghost use Rattle.pipe_command.specs.Run.{PipeFits};
+ghost use Rattle.pipe_command.specs.Responding.{ResponderAnswers, Keeps, LeavesAnswered, PipeWent, given};
+ghost use Rattle.pipe_command.specs.PipeRun.{PipeFits};
 
-use crate::pipe::{Output, Pipe, Verdict};
+use crate::pipe::{Output, Pipe, PipeVerdict};
 use asp_base::{NoMemory, StepClock};
 use asp_messages::{MOST_COOKIE, Message, Reply, ReplyHead, Request, reply_body, reply_head};
-use desk::Desk;
+use command_loop::{Consumer, Stepped};
 use journal_text::write_entry;
 use keeper::Keeper;
+use plain_desk::PlainDesk;
 use session_machine::{Deed, Entry, Profile};
 use std::alloc::Global;
 use stream_core::{Next, Stream};
-use stream_run::{Consumer, Step};
 
 /// The first line of a journal from place 0.
 const FIRST_LINE: &[u8] = b"asp-journal 3 0\n";
 
 /// How a message was answered.
 #[derive(Debug, Drop)]
-pub struct Answer {
+pub struct Response {
     /// Its moment, in milliseconds.
     pub moment: u64,
     /// The cookie that was drawn for it, 0 where none was.
@@ -61,7 +61,7 @@ pub struct Responder<K> {
     /// The bytes that were read and not taken yet.
     pub stream: Stream,
     /// The items, and the cookies that are left.
-    pub desk: Desk<K>,
+    pub desk: PlainDesk<K>,
     /// The moments of the messages to come.
     pub clock: StepClock,
     /// What was given last.
@@ -76,7 +76,7 @@ impl<K: Keeper> Responder<K> {
         requires pipe { PipeFits pipe }
         requires no_faults { K.count keeper ≡ 0 }
         requires empty { IsEmptyTold (K.told keeper) }
-        ensures begun { Went ⟦<K as Keeper>⟧ result result [] [] }
+        ensures begun { PipeWent ⟦<K as Keeper>⟧ result result [] [] }
         ensures pipe { result.pipe ≡ pipe }
         ensures keeper { result.desk.keeper ≡ keeper }
     {
@@ -85,7 +85,7 @@ impl<K: Keeper> Responder<K> {
             pipe,
             is_begun: !pipe.journal,
             stream: Stream::new(alloc),
-            desk: Desk::new(alloc, keeper, pipe.first, MOST_COOKIE),
+            desk: PlainDesk::new(alloc, keeper, pipe.first, MOST_COOKIE),
             clock: StepClock::new(pipe.start, pipe.step),
             given: Given::Nothing,
             line: Vec::new(alloc),
@@ -93,9 +93,9 @@ impl<K: Keeper> Responder<K> {
     }
 
     /// Answers a message at the clock's next moment. One that is no request draws no cookie.
-    fn act(&mut self, message: Message) -> Answer
+    fn act(&mut self, message: Message) -> Response
         requires message { IfFit message RequestFits }
-        ensures answers { AnswersMessage ⟦<K as Keeper>⟧ message self.old self.new result }
+        ensures answers { ResponderAnswers ⟦<K as Keeper>⟧ message self.old self.new result }
         ensures fits { ReplyFits result.reply }
         ensures moment { result.moment ≤ 2 ^ 62 }
         ensures place { IfFit message (λ r. HasPlace result.reply) }
@@ -107,13 +107,13 @@ impl<K: Keeper> Responder<K> {
         match message {
             Message::Fit(request) => {
                 let acted = self.desk.act(request, moment);
-                Answer {
+                Response {
                     moment,
                     drawn: acted.drawn,
                     reply: acted.reply,
                 }
             }
-            Message::Unfit => Answer {
+            Message::Unfit => Response {
                 moment,
                 drawn: 0,
                 reply: Reply::Bad,
@@ -216,17 +216,17 @@ impl<K: Keeper> Responder<K> {
 impl<K: Keeper> Consumer for Responder<K> {
     ghost use Rattle.std.specs.Prelude.{◌+◌, length};
     ghost use Rattle.pipe_command.specs.Giving.{given_body, given_head};
-    ghost use Rattle.pipe_command.specs.Responding.{GaveSo, Lacks, Waits, Went, unbegun};
+    ghost use Rattle.pipe_command.specs.Responding.{GaveSo, PipeLacks, PipeWaits, PipeWent, unbegun};
 
-    type Over = Verdict;
+    type Over = PipeVerdict;
 
-    ghost went = { Went ⟦<K as Keeper>⟧ };
+    ghost went = { PipeWent ⟦<K as Keeper>⟧ };
 
-    ghost waits = { Waits };
+    ghost waits = { PipeWaits };
 
     ghost gave = { GaveSo ⟦<K as Keeper>⟧ };
 
-    ghost lacks = { Lacks ⟦<K as Keeper>⟧ };
+    ghost lacks = { PipeLacks ⟦<K as Keeper>⟧ };
 
     ghost work = { λ now. length now.stream.reader.held + unbegun now.is_begun };
 
@@ -236,38 +236,38 @@ impl<K: Keeper> Consumer for Responder<K> {
         self.stream.take(piece)
     }
 
-    fn step(&mut self, more: bool) -> Step<Verdict> {
+    fn step(&mut self, more: bool) -> Stepped<PipeVerdict> {
         if !self.is_begun {
             self.is_begun = true;
             self.given = Given::FirstLine;
-            return Step::Did;
+            return Stepped::Did;
         }
         match self.stream.next() {
             Next::Message(message) => match self.answer(message) {
-                Ok(()) => Step::Did,
-                Err(NoMemory) => Step::NoMemory,
+                Ok(()) => Stepped::Did,
+                Err(NoMemory) => Stepped::NoMemory,
             },
-            Next::More => Step::More,
+            Next::More => Stepped::More,
             Next::Broken => {
                 if !more {
-                    return Step::More;
+                    return Stepped::More;
                 }
                 self.give_closing();
-                Step::Over(Verdict::Broken)
+                Stepped::Over(PipeVerdict::Broken)
             }
-            Next::NoMemory => Step::NoMemory,
+            Next::NoMemory => Stepped::NoMemory,
         }
     }
 
-    fn finish(&mut self) -> Result<Verdict, NoMemory> {
+    fn finish(&mut self) -> Result<PipeVerdict, NoMemory> {
         match self.stream.finish() {
             None => {
                 self.given = Given::Nothing;
-                Ok(Verdict::Whole)
+                Ok(PipeVerdict::Whole)
             }
             Some(_) => {
                 self.give_closing();
-                Ok(Verdict::Broken)
+                Ok(PipeVerdict::Broken)
             }
         }
     }

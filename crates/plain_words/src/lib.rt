@@ -5,11 +5,11 @@
 mod byte_string;
 mod flag;
 mod laws;
-mod number;
+mod number_word;
 mod split;
 
 pub use byte_string::read_byte_string;
 pub use flag::read_flag;
 pub use laws::{one_spelling, words};
-pub use number::read_plain_number;
+pub use number_word::read_plain_number;
 pub use split::{cut_number, split_at_byte, split_word, strip, strip_end};

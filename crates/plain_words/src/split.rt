@@ -2,7 +2,7 @@
 ghost use Rattle.std.specs.Prelude.{◌≡◌, ◌≢◌, ℕ, ◌≤◌, List, ◌∷◌, ◌++◌, decimal, MatchOption};
 ghost use Rattle.plain_words.specs.Words.{HasNo, SplitsAt};
 
-use crate::number::read_plain_number;
+use crate::number_word::read_plain_number;
 use memchr::memchr;
 
 /// The text before the first such byte, and the text behind it; `None` exactly where the byte

@@ -8,18 +8,19 @@ use Rattle.asp_messages.specs.declared.reply.Reply.{Reply}
 use Rattle.asp_messages.specs.declared.reply.Reply.TheVariants as replies
 use Rattle.asp_messages.specs.Fields.{response_fields, body_length}
 use Rattle.asp_messages.specs.Head.{IsReplyHead, most_head}
-use Rattle.asp_messages.specs.ReplySpelling.{Answer, reply, strange, answer_of, SpellsReply}
-use Rattle.reply_reader.specs.declared.kind.ReplyMessage.{ReplyMessage}
-use Rattle.reply_reader.specs.declared.kind.ReplyMessage.TheVariants as messages
+use Rattle.asp_messages.specs.ReplySpelling.{StreamAnswer, reply, strange, answer_spelled, SpellsReply}
+use Rattle.reply_reader.specs.declared.reply_kind.ReplyMessage.{ReplyMessage}
+use Rattle.reply_reader.specs.declared.reply_kind.ReplyMessage.TheVariants as messages
 
 -- The text is a head that announces a body of so many bytes.
-pub record IsAnnounced (text : List ℕ) (len : ℕ) : Type 0 where
+pub record IsReplyAnnounced (text : List ℕ) (len : ℕ) : Type 0 where
   pub head : ResponseHead
   pub is_head : IsReplyHead text head
   pub announced : body_length (response_fields head) ≡ Some len
 
 -- The text is a head, its parts lie at these spans, and its body has the length that it announces.
-pub record IsParsed (text : List ℕ) (headers : List HeaderSpan) (spans : ResponseSpans) (len : ℕ)
+pub record IsReplyParsed (text : List ℕ) (headers : List HeaderSpan) (spans : ResponseSpans)
+    (len : ℕ)
     : Type 0 where
   pub within : IsResponseWithin text headers spans
   pub of : IsResponseOf text headers spans
@@ -29,7 +30,7 @@ pub record IsParsed (text : List ℕ) (headers : List HeaderSpan) (spans : Respo
   pub announced : body_length (map (header_bytes text) (take spans.headers headers)) ≡ Some len
 
 -- the answer that a message is
-abbrev pub answer_told : ReplyMessage → Answer
+abbrev pub answer_told : ReplyMessage → StreamAnswer
 answer_told (messages.Reply r) = reply r
 answer_told (messages.Strange status) = strange status
 
@@ -42,7 +43,7 @@ pub record MeansReply (text body : List ℕ) (m : ReplyMessage) : Type 0 where
   pub head : ResponseHead
   pub is_head : IsReplyHead text head
   pub announced : body_length (response_fields head) ≡ Some (length body)
-  pub answer_is : answer_told m ≡ answer_of (status_code head) (response_fields head) body
+  pub answer_is : answer_told m ≡ answer_spelled (status_code head) (response_fields head) body
 
 -- a 200 without content: done, where there is no body
 abbrev pub done_with : List ℕ → ReplyMessage

@@ -14,19 +14,19 @@ use Rattle.asp_messages.specs.declared.reply.Reply.{Reply}
 use Rattle.asp_messages.proofs.FramingLemmas.{body_length-le}
 use Rattle.asp_messages.specs.Fields.{Field, Occurrence, absent, one, twice, once, response_fields, body_length, most_body, lock_cookie_field}
 use Rattle.asp_messages.specs.Head.{IsReplyHead, most_head}
-use Rattle.asp_messages.specs.ReplySpelling.{Answer, reply, strange, answer_of, reply_of, ok_reply, done_reply, found_reply, locked_reply, plain_reply, strange_unless, minutes_field, action_flags_field, holder_field, age_field, since_field, SpellsReply}
+use Rattle.asp_messages.specs.ReplySpelling.{StreamAnswer, reply, strange, answer_spelled, reply_of, ok_reply, done_reply, found_reply, locked_reply, plain_reply, strange_unless, minutes_field, action_flags_field, holder_field, age_field, since_field, SpellsReply}
 use Rattle.asp_messages.specs.Stream.{HasNoMessage, IsHopeless, IsWaiting}
 use Rattle.message_framing.specs.declared.head_end.Phase.{Phase}
 use Rattle.message_framing.specs.declared.head_end.Phase.TheVariants.{Blank, Line, Feed}
 use Rattle.message_framing.specs.HeadEnd.{seen, EndsHead}
 use Rattle.message_framing.specs.Framed.{Framed, TakesFramed}
-use Rattle.message_framing.specs.Held.{Held, Reading, TakesMessage}
+use Rattle.message_framing.specs.ReaderState.{ReaderState, CountedReader, TakesMessage}
 use Rattle.message_framing.proofs.EndLemmas.{none-seen}
 use Rattle.message_framing.proofs.SectionLemmas.{then, in-line, in-line-one, end-line, blank-lines, section-ends}
-use Rattle.reply_reader.specs.declared.kind.ReplyMessage.{ReplyMessage}
-use Rattle.reply_reader.specs.declared.kind.ReplyMessage.TheVariants as messages
-use Rattle.reply_reader.specs.ReplyNext.{TakesCounted}
-use Rattle.reply_reader.specs.Replies.{IsAnnounced, IsParsed, MeansReply, SpellsMessage, answer_told, filled, filled_reply}
+use Rattle.reply_reader.specs.declared.reply_kind.ReplyMessage.{ReplyMessage}
+use Rattle.reply_reader.specs.declared.reply_kind.ReplyMessage.TheVariants as messages
+use Rattle.reply_reader.specs.ReplyNext.{TakesReplyCounted}
+use Rattle.reply_reader.specs.Replies.{IsReplyAnnounced, IsReplyParsed, MeansReply, SpellsMessage, answer_told, filled, filled_reply}
 
 -- ---- where a head ends
 
@@ -68,7 +68,7 @@ pub ends : (text body : List ℕ) (m : ReplyMessage) → MeansReply text body m
     → EndsHead text × (length text ≤ most_head)
 ends text body m means = (head-ends text means.head means.is_head, means.is_head.short)
 
-pub fits : (text body : List ℕ) (len : ℕ) (m : ReplyMessage) → IsAnnounced text len
+pub fits : (text body : List ℕ) (len : ℕ) (m : ReplyMessage) → IsReplyAnnounced text len
     → MeansReply text body m → length body ≡ len
 fits text body len m is means =
     let one_head : is.head ≡ means.head =
@@ -78,12 +78,12 @@ fits text body len m is means =
     ∙ is.announced in
     cc
 
-pub short : (text : List ℕ) (len : ℕ) → IsAnnounced text len → len ≤ most_body
+pub short : (text : List ℕ) (len : ℕ) → IsReplyAnnounced text len → len ≤ most_body
 short text len is = body_length-le _ _ is.announced
 
 -- the text of the spans is a head
 pub parsed-head : (text : List ℕ) (headers : List HeaderSpan) (spans : ResponseSpans) (len : ℕ)
-    → (is : IsParsed text headers spans len) → IsReplyHead text is.of.0
+    → (is : IsReplyParsed text headers spans len) → IsReplyHead text is.of.0
 parsed-head text headers spans len is =
     let same = simp map-length at (ap length is.of.1.fields) in
     record {
@@ -99,7 +99,7 @@ parsed-head text headers spans len is =
 
 -- what the head announces
 pub parsed-announced : (text : List ℕ) (headers : List HeaderSpan) (spans : ResponseSpans)
-    (len : ℕ) → IsParsed text headers spans len → IsAnnounced text len
+    (len : ℕ) → IsReplyParsed text headers spans len → IsReplyAnnounced text len
 parsed-announced text headers spans len is = record {
   head = is.of.0;
   is_head = parsed-head text headers spans len is;
@@ -114,7 +114,7 @@ waits_for_head bytes phase so room = inl (
   room,
 )
 
-pub waits_for_body : (text back : List ℕ) (len : ℕ) → IsAnnounced text len → length back < len
+pub waits_for_body : (text back : List ℕ) (len : ℕ) → IsReplyAnnounced text len → length back < len
     → IsWaiting IsReplyHead response_fields (text ++ back)
 waits_for_body text back len is few = inr (record {
   head = is.head;
@@ -160,7 +160,7 @@ spelled bytes m s = record {
 -- ---- each message is an answer
 
 -- each answer is that of a message
-answered : (answer : Answer) → (m : ReplyMessage) × (answer_told m ≡ answer)
+answered : (answer : StreamAnswer) → (m : ReplyMessage) × (answer_told m ≡ answer)
 answered (reply r) = (messages.Reply r, refl)
 answered (strange status) = (messages.Strange status, refl)
 
@@ -175,7 +175,7 @@ pub hopeless-hopeless : (bytes : List ℕ) → IsHopeless SpellsMessage bytes
 hopeless-hopeless bytes none more = none-none (bytes ++ more) (none more)
 
 -- a message that was taken is an answer that was taken
-pub told : (old new : Held) (m : ReplyMessage) → TakesMessage SpellsMessage old new m
+pub told : (old new : ReaderState) (m : ReplyMessage) → TakesMessage SpellsMessage old new m
     → TakesMessage SpellsReply old new (answer_told m)
 told old new m took = record {
   front = took.front;
@@ -187,7 +187,7 @@ told old new m took = record {
 -- ---- the body is filled in
 
 -- the answer with this body
-filled_answer : Answer → List ℕ → Answer
+filled_answer : StreamAnswer → List ℕ → StreamAnswer
 filled_answer (reply r) body = answer_told (filled_reply r body)
 filled_answer (strange status) body = strange status
 
@@ -273,14 +273,14 @@ by_status false status fields body e =
     (plain-filled status body)
 
 answer-filled : (status : ℕ) (fields : List Field) (body : List ℕ)
-    → filled_answer (answer_of status fields []) body ≡ answer_of status fields body
+    → filled_answer (answer_spelled status fields []) body ≡ answer_spelled status fields body
 unfolding reply_of
 answer-filled status fields body = by_status (status == 200) status fields body refl
 
 -- the message of a head's parts, with its body still to come
 pub begins : (text : List ℕ) (headers : List HeaderSpan) (spans : ResponseSpans) (len : ℕ)
-    (m : ReplyMessage) → IsParsed text headers spans len
-    → answer_told m ≡ answer_of spans.code
+    (m : ReplyMessage) → IsReplyParsed text headers spans len
+    → answer_told m ≡ answer_spelled spans.code
     (map (header_bytes text) (take spans.headers headers)) []
     → (body : List ℕ) → length body ≡ len → MeansReply text body (filled m body)
 begins text headers spans len m is says body same_len =
@@ -294,14 +294,14 @@ begins text headers spans len m is says body same_len =
       answer_is =
           filled-told m body ∙ ap (λ a. filled_answer a body) says
           ∙ answer-filled spans.code fields body
-          ∙ ap (λ status. answer_of status fields body) at.code
-          ∙ ap (λ fs. answer_of (status_code head) fs body) at.fields;
+          ∙ ap (λ status. answer_spelled status fields body) at.code
+          ∙ ap (λ fs. answer_spelled (status_code head) fs body) at.fields;
     }
 
 -- ---- what was taken
 
-pub takes : (old new : Reading) (ticks : ℕ) (m : ReplyMessage)
-    → TakesFramed MeansReply old new ticks m → TakesCounted old new ticks (answer_told m)
+pub takes : (old new : CountedReader) (ticks : ℕ) (m : ReplyMessage)
+    → TakesFramed MeansReply old new ticks m → TakesReplyCounted old new ticks (answer_told m)
 unfolding spells
 takes old new ticks m t = record {
   taken = record {

@@ -2,8 +2,8 @@
 //! cut.
 #![tactic(auto)]
 
-mod kind;
-mod reader;
-mod reply;
+mod read_reply;
+mod reply_kind;
+mod reply_reader;
 
-pub use reader::{ReplyNext, ReplyReader};
+pub use reply_reader::{ReplyNext, ReplyReader};

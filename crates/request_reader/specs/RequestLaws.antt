@@ -25,7 +25,7 @@ use Rattle.message_framing.specs.HeadEnd.{seen, EndsHead}
 use Rattle.message_framing.specs.Framed.{Framed}
 use Rattle.message_framing.proofs.EndLemmas.{none-seen}
 use Rattle.message_framing.proofs.SectionLemmas.{then, in-line, in-line-one, end-line, token-line, blank-line, blank-lines, section-ends}
-use Rattle.request_reader.specs.Requests.{IsAnnounced, IsParsed, MeansRequest, filled, filled_ask}
+use Rattle.request_reader.specs.Requests.{IsRequestAnnounced, IsRequestParsed, MeansRequest, filled, filled_ask}
 
 -- ---- where a head ends
 
@@ -61,7 +61,7 @@ pub ends : (text body : List ℕ) (m : Message) → MeansRequest text body m
     → EndsHead text × (length text ≤ most_head)
 ends text body m means = (head-ends text means.head means.is_head, means.is_head.short)
 
-pub fits : (text body : List ℕ) (len : ℕ) (m : Message) → IsAnnounced text len
+pub fits : (text body : List ℕ) (len : ℕ) (m : Message) → IsRequestAnnounced text len
     → MeansRequest text body m → length body ≡ len
 fits text body len m is means =
     let one_head : is.head ≡ means.head =
@@ -71,12 +71,12 @@ fits text body len m is means =
     ∙ is.announced in
     cc
 
-pub short : (text : List ℕ) (len : ℕ) → IsAnnounced text len → len ≤ most_body
+pub short : (text : List ℕ) (len : ℕ) → IsRequestAnnounced text len → len ≤ most_body
 short text len is = body_length-le _ _ is.announced
 
 -- the text of the spans is a head
 pub parsed-head : (text : List ℕ) (headers : List HeaderSpan) (spans : RequestSpans) (len : ℕ)
-    → (is : IsParsed text headers spans len) → IsRequestHead text is.of.0
+    → (is : IsRequestParsed text headers spans len) → IsRequestHead text is.of.0
 parsed-head text headers spans len is =
     let same = simp map-length at (ap length is.of.1.fields) in
     record {
@@ -92,7 +92,7 @@ parsed-head text headers spans len is =
 
 -- what the head announces
 pub parsed-announced : (text : List ℕ) (headers : List HeaderSpan) (spans : RequestSpans) (len : ℕ)
-    → IsParsed text headers spans len → IsAnnounced text len
+    → IsRequestParsed text headers spans len → IsRequestAnnounced text len
 parsed-announced text headers spans len is = record {
   head = is.of.0;
   is_head = parsed-head text headers spans len is;
@@ -107,7 +107,8 @@ waits_for_head bytes phase so room = inl (
   room,
 )
 
-pub waits_for_body : (text back : List ℕ) (len : ℕ) → IsAnnounced text len → length back < len
+pub waits_for_body : (text back : List ℕ) (len : ℕ) → IsRequestAnnounced text len
+    → length back < len
     → IsWaiting IsRequestHead request_fields (text ++ back)
 waits_for_body text back len is few = inr (record {
   head = is.head;
@@ -226,7 +227,7 @@ message-filled verb target fields body =
 
 -- the message of a head's parts, with its body still to come
 pub begins : (text : List ℕ) (headers : List HeaderSpan) (spans : RequestSpans) (len : ℕ)
-    (m : Message) → IsParsed text headers spans len
+    (m : Message) → IsRequestParsed text headers spans len
     → m ≡ message_of (span_bytes text spans.method) (span_bytes text spans.path)
     (map (header_bytes text) (take spans.headers headers)) []
     → (body : List ℕ) → length body ≡ len → MeansRequest text body (filled m body)

@@ -13,13 +13,14 @@ use Rattle.asp_messages.specs.Head.{IsRequestHead, most_head}
 use Rattle.asp_messages.specs.RequestSpelling.{message_of}
 
 -- The text is a head that announces a body of so many bytes.
-pub record IsAnnounced (text : List ℕ) (len : ℕ) : Type 0 where
+pub record IsRequestAnnounced (text : List ℕ) (len : ℕ) : Type 0 where
   pub head : RequestHead
   pub is_head : IsRequestHead text head
   pub announced : body_length (request_fields head) ≡ Some len
 
 -- The text is a head, its parts lie at these spans, and its body has the length that it announces.
-pub record IsParsed (text : List ℕ) (headers : List HeaderSpan) (spans : RequestSpans) (len : ℕ)
+pub record IsRequestParsed (text : List ℕ) (headers : List HeaderSpan) (spans : RequestSpans)
+    (len : ℕ)
     : Type 0 where
   pub within : IsRequestWithin text headers spans
   pub of : IsRequestOf text headers spans

@@ -2,7 +2,7 @@
 //! are cut.
 #![tactic(auto)]
 
-mod kind;
-mod request;
+mod read_request;
+mod request_kind;
 
-pub use kind::{Next, RequestReader, Requests};
+pub use request_kind::{Next, RequestReader, Requests};

@@ -6,13 +6,13 @@ use Rattle.plain_words.specs.Words.{HasNo}
 use Rattle.plain_words.proofs.SplitLemmas.{split_one}
 use Rattle.session_machine.specs.declared.item.Item.{Item}
 use Rattle.page_script.specs.declared.line.Line.{Line}
-use Rattle.page_script.specs.Lines.{line_text, IsLine}
+use Rattle.page_script.specs.Lines.{line_text, IsScriptLine}
 use Rattle.page_script.specs.World.{World, empty_world, Leads}
 use Rattle.page_script.proofs.ReadingLemmas.{one_line_each, line_feed_nowhere}
-use Rattle.script_runner.specs.declared.verdict.Verdict.TheVariants as verdicts
-use Rattle.stream_run.specs.declared.ending.End.TheVariants as ends
-use Rattle.stream_run.specs.Flow.{flow}
-use Rattle.script_runner.specs.Drive.{End, script_text, AreLines, BeginsWrong, IsUnfinished, IsDrive, IsScript, TellsScript, TellsFewer, status_number}
+use Rattle.script_runner.specs.declared.script_verdict.ScriptVerdict.TheVariants as verdicts
+use Rattle.command_loop.specs.declared.ending.RunEnd.TheVariants as ends
+use Rattle.command_loop.specs.Flow.{flow}
+use Rattle.script_runner.specs.Drive.{ScriptEnd, script_text, AreScriptLines, BeginsNoScript, IsUnfinished, IsDrive, IsScript, TellsScript, TellsFewer, status_of_script}
 use Rattle.script_runner.proofs.NameLemmas.{names, names_after, names-step, MayStandNext-same, MayStandNext-of_step}
 
 heads : (a b : ℕ) (xs ys : List ℕ) → a ∷ xs ≡ b ∷ ys → (a ≡ b) × (xs ≡ ys)
@@ -51,7 +51,7 @@ record Left (world : World) (bytes : List ℕ) : Type 0 where
   to : World
   output : List ℕ
   spelled : bytes ≡ script_text script
-  are_lines : AreLines script
+  are_lines : AreScriptLines script
   leads : Leads from script to output
   same : names world ≡ names from
 
@@ -64,7 +64,8 @@ cons_text line script rest more =
 
 left_of : (done all : List Line) (rest more : List ℕ) (a b world last : World)
     (output others : List ℕ)
-    → (script_text done ++ rest) ++ more ≡ script_text all → AreLines done → AreLines all
+    → (script_text done ++ rest) ++ more ≡ script_text all → AreScriptLines done
+    → AreScriptLines all
     → Leads a done world output → Leads b all last others → names a ≡ names b
     → Left world (rest ++ more)
 left_of [] all rest more a b world last output others is done_lines all_lines leads follow same =
@@ -94,7 +95,7 @@ left_of (l ∷ done) (n ∷ all) rest more a b world last output others is done_
     (line_feed_nowhere (line_text n) n all_lines.0) (sym (cons_text l done rest more)
     ∙ is) in
     let one : l ≡ n =
-    one_line_each (line_text n) l n (subst (λ t. IsLine t l) parts.0 done_lines.0)
+    one_line_each (line_text n) l n (subst (λ t. IsScriptLine t l) parts.0 done_lines.0)
     all_lines.0 in
     left_of done all rest more leads.0 follow.0 world last leads.2 follow.2 parts.1 done_lines.1
     all_lines.1 leads.4 follow.4
@@ -103,8 +104,8 @@ left_of (l ∷ done) (n ∷ all) rest more a b world last output others is done_
 
 -- a rest whose first line is wrong begins no lines that could follow
 wrong_left : (world from to : World) (rest more : List ℕ) (script : List Line) (output : List ℕ)
-    → BeginsWrong world rest → rest ++ more ≡ script_text script
-    → AreLines script → Leads from script to output → names world ≡ names from → ⊥
+    → BeginsNoScript world rest → rest ++ more ≡ script_text script
+    → AreScriptLines script → Leads from script to output → names world ≡ names from → ⊥
 wrong_left world from to rest more [] output wrong is lines leads same =
     some_front wrong.text wrong.behind more (ap (λ t. t ++ more) (sym wrong.split.joined) ∙ is)
 wrong_left world from to rest more (line ∷ script) output wrong is lines leads same =
@@ -113,13 +114,13 @@ wrong_left world from to rest more (line ∷ script) output wrong is lines leads
     wrong.split.first (line_feed_nowhere (line_text line) line lines.0)
     (sym (append_assoc wrong.text (10 ∷ wrong.behind) more)
     ∙ ap (λ t. t ++ more) (sym wrong.split.joined) ∙ is) in
-    wrong.none line (subst (λ t. IsLine t line) (sym parts.0) lines.0)
+    wrong.none line (subst (λ t. IsScriptLine t line) (sym parts.0) lines.0)
     (MayStandNext-same from world line (sym same)
     (MayStandNext-of_step from line leads.0 leads.1 leads.3))
 
 -- nor does one that is longer than a line, or that nothing follows
 unfinished_left : (new : List ℕ × List ℕ) (rest : List ℕ) (script : List Line)
-    → IsUnfinished (Some new) rest → rest ++ new.1 ≡ script_text script → AreLines script → ⊥
+    → IsUnfinished (Some new) rest → rest ++ new.1 ≡ script_text script → AreScriptLines script → ⊥
 unfinished_left new rest [] (unseen, inl long) is lines =
     omega (arith, long, ap length (nothing_front rest new.1 is))
 unfinished_left new rest [] (unseen, inr end) is lines = end.0 (nothing_front rest new.1 is)
@@ -138,7 +139,8 @@ unfinished_left new rest (line ∷ script) (unseen, inr end) is lines =
 module _ (CanCount : ℕ → Type 0) (most : ℕ) (sink sink' : Option (List ℕ)) (told : Option (List ℕ
     → Option Item)) (faults : ℕ) where
   left_of_run : (old new : List ℕ
-      × List ℕ) (end : End) (run : IsDrive CanCount most (flow (Some old) (Some new) sink sink')
+      × List ℕ) (end : ScriptEnd)
+      (run : IsDrive CanCount most (flow (Some old) (Some new) sink sink')
       told faults end) → IsScript old.1 → Left run.world (run.rest ++ new.1)
   left_of_run old new end run script =
       left_of run.script script.0 run.rest new.1 empty_world empty_world run.world script.1
@@ -168,9 +170,9 @@ module _ (CanCount : ℕ → Type 0) (most : ℕ) (sink sink' : Option (List ℕ
       omega (arith, run.ends.1, fewer, ap length run.given.1, length-append run.bytes new.1)
 
   -- status 3 is given to no script
-  pub no_script : (source source' : Option (List ℕ × List ℕ)) (end : End)
+  pub no_script : (source source' : Option (List ℕ × List ℕ)) (end : ScriptEnd)
       → IsDrive CanCount most (flow source source' sink sink') told faults end
-      → status_number end ≡ 3 → TellsScript source → ⊥
+      → status_of_script end ≡ 3 → TellsScript source → ⊥
   no_script source source' (ends.Over verdicts.Whole) run is script = omega (arith, is)
   no_script source source' (ends.Over verdicts.Broken) run is script =
       broken_script source source' run script
@@ -179,11 +181,11 @@ module _ (CanCount : ℕ → Type 0) (most : ℕ) (sink sink' : Option (List ℕ
   no_script source source' ends.NoMemory run is script = omega (arith, is)
   no_script source source' ends.Long run is script = omega (arith, is)
 
-  pub complete_run : (source source' : Option (List ℕ × List ℕ)) (end : End)
+  pub complete_run : (source source' : Option (List ℕ × List ℕ)) (end : ScriptEnd)
       → IsDrive CanCount most (flow source source' sink sink') told faults end → TellsScript source
       → TellsFewer source most
-      → (end ≡ ends.ReadFault → ⊥) → (end ≡ ends.WriteFault → ⊥) → (status_number end ≡ 0)
-      ⊎ (status_number end ≡ 6)
+      → (end ≡ ends.ReadFault → ⊥) → (end ≡ ends.WriteFault → ⊥) → (status_of_script end ≡ 0)
+      ⊎ (status_of_script end ≡ 6)
   complete_run source source' (ends.Over verdicts.Whole) run script fewer read write = inl refl
   complete_run source source' (ends.Over verdicts.Broken) run script fewer read write =
       absurd (broken_script source source' run script)

@@ -4,28 +4,28 @@ use Rattle.std.specs.Prelude.{◌⊎◌, IsTrue, ⊤}
 use Rattle.asp_base.specs.Outside.{Takes}
 use Rattle.plain_words.specs.Words.{HasNo, SplitsAt}
 use Rattle.session_machine.specs.History.{nothing}
-use Rattle.shard_core.specs.Standing.{StandsFor}
+use Rattle.shard_core.specs.ShardStands.{StandsFor}
 use Rattle.page_script.specs.declared.line.Line.{Line}
 use Rattle.page_script.specs.declared.script.Script.{Script}
-use Rattle.page_script.specs.Lines.{most_line}
+use Rattle.page_script.specs.Lines.{most_script_line}
 use Rattle.page_script.specs.World.{World, empty_world, history, IsLawfulWorld, PagesForceOldLocks}
-use Rattle.page_script.specs.Standing.{Stands, IsAppended, WorldTakesText, EachWorldTakesText, EachWorldMayTakeText, NoWorldTakesText, IfTold}
+use Rattle.page_script.specs.ScriptStands.{ScriptStands, IsAppended, WorldTakesText, EachWorldTakesText, EachWorldMayTakeText, NoWorldTakesText, IfTold}
 use Rattle.keeper.specs.declared.keeping.Keeper as keepers
 use Rattle.script_runner.specs.declared.driver.Driver.{Driver}
-use Rattle.script_runner.specs.declared.verdict.Verdict.{Verdict}
-use Rattle.script_runner.specs.declared.verdict.Verdict.TheVariants as verdicts
-use Rattle.script_runner.specs.Drive.{End, script_text, BeginsWrong, WroteInPart, Reached, EndsAs, IsDrive}
-use Rattle.script_runner.specs.Running.{HasRun, HasRunLast, KeepsFloor, Went, Waits, Gave, Lacks}
-use Rattle.stream_run.specs.declared.consumer.Consumer.{Ghosts}
-use Rattle.stream_run.specs.declared.ending.End.TheVariants as ends
-use Rattle.stream_run.specs.Ending.{Ended, IsOver, HasRoom}
-use Rattle.stream_run.specs.Feeding.{GoesOn}
-use Rattle.stream_run.specs.Flow.{flow}
-use Rattle.script_runner.proofs.LineLemmas.{script_text-push, line_of, AreLines-push, Leads-push}
+use Rattle.script_runner.specs.declared.script_verdict.ScriptVerdict.{ScriptVerdict}
+use Rattle.script_runner.specs.declared.script_verdict.ScriptVerdict.TheVariants as verdicts
+use Rattle.script_runner.specs.Drive.{ScriptEnd, script_text, BeginsNoScript, ScriptWroteInPart, ScriptReached, ScriptEndsAs, IsDrive}
+use Rattle.script_runner.specs.ScriptRunning.{HasRun, HasRunLast, KeepsFloor, ScriptWent, ScriptWaits, ScriptGave, ScriptLacks}
+use Rattle.command_loop.specs.declared.consumer.Consumer.{Ghosts}
+use Rattle.command_loop.specs.declared.ending.RunEnd.TheVariants as ends
+use Rattle.command_loop.specs.Ending.{Ended, ConsumerIsOver, HasRoom}
+use Rattle.command_loop.specs.Feeding.{GoesOn}
+use Rattle.command_loop.specs.Flow.{flow}
+use Rattle.script_runner.proofs.LineLemmas.{script_text-push, line_of, AreScriptLines-push, Leads-push}
 
 module _ {K : Type 0} (G : keepers.Ghosts K) where
   pub HasRun-start : (held : List ℕ) (script : Script K) → held ≡ []
-      → Stands G script empty_world → HasRun G script [] held []
+      → ScriptStands G script empty_world → HasRun G script [] held []
   HasRun-start held script none stands = record {
     lines = [];
     world = empty_world;
@@ -90,7 +90,8 @@ module _ {K : Type 0} (G : keepers.Ghosts K) where
           ∙ ap (λ t. t ++ 10 ∷ held') (sym took.is_line.spelled))
           ∙ sym (script_text-push run.lines took.line held');
       are_lines =
-          AreLines-push run.lines took.line run.are_lines (line_of text took.line took.is_line);
+          AreScriptLines-push run.lines took.line run.are_lines
+          (line_of text took.line took.is_line);
       run = run.run;
       step = took.takes.step;
       stands = took.takes.stands;
@@ -108,9 +109,9 @@ module _ {K : Type 0} (G : keepers.Ghosts K) where
 
     -- it is none that may follow
     pub line_wrong : script' ≡ script → NoWorldTakesText G script text
-        → (ran : HasRun G script' bytes held due) × BeginsWrong ran.world held
+        → (ran : HasRun G script' bytes held due) × BeginsNoScript ran.world held
     line_wrong same none =
-        subst (λ s. (ran : HasRun G s bytes held due) × BeginsWrong ran.world held) (sym same) (
+        subst (λ s. (ran : HasRun G s bytes held due) × BeginsNoScript ran.world held) (sym same) (
           run,
           record {
             text = text;
@@ -126,7 +127,7 @@ module _ {K : Type 0} (G : keepers.Ghosts K) where
         ⊎ ((printed : List ℕ) × HasRunLast G script' bytes rest due printed))
     line_lacks either = of (either run.world run.stands)
       where
-        of : Stands G script' run.world
+        of : ScriptStands G script' run.world
             ⊎ WorldTakesText G script' run.world text (λ printed. ⊤)
             → (rest : List ℕ)
             × (HasRun G script' bytes rest due
@@ -147,12 +148,12 @@ module _ {K : Type 0} (G : keepers.Ghosts K) where
 
   -- ---- a run of the consumer
 
-  abbrev pub ghosts : Ghosts (Driver K) Verdict
+  abbrev pub ghosts : Ghosts (Driver K) ScriptVerdict
   ghosts = record {
-    went = Went G;
-    waits = Waits;
-    gave = Gave G;
-    lacks = Lacks G;
+    went = ScriptWent G;
+    waits = ScriptWaits;
+    gave = ScriptGave G;
+    lacks = ScriptLacks G;
     work = λ now. length now.held;
     parts = λ now. (now.print.items, []);
   }
@@ -172,8 +173,8 @@ module _ {K : Type 0} (G : keepers.Ghosts K) where
   module _ (most : ℕ) (first now : Driver K) (source source' : Option (List ℕ
       × List ℕ)) (sink sink' : Option (List ℕ)) where
     -- the floor is kept at each ending
-    over_keeps : (verdict : Verdict) (bytes whole last : List ℕ)
-        → IsOver ghosts most first now source' bytes verdict whole last → (last ≡ [])
+    over_keeps : (verdict : ScriptVerdict) (bytes whole last : List ℕ)
+        → ConsumerIsOver ghosts most first now source' bytes verdict whole last → (last ≡ [])
         × KeepsFloor G first now
     over_keeps verdicts.Whole bytes whole last (inl (closes, end, some)) = (closes.0, closes.1)
     over_keeps verdicts.Broken bytes whole last (inl (closes, end, some)) = (closes.0, closes.1)
@@ -181,12 +182,14 @@ module _ {K : Type 0} (G : keepers.Ghosts K) where
     over_keeps verdicts.Broken bytes whole last (inr (more, breaks, room)) = (breaks.0, breaks.1)
 
     part_keeps : (bytes whole last : List ℕ)
-        → ((verdict : Verdict) × IsOver ghosts most first now source' bytes verdict whole last)
-        ⊎ Gave G GoesOn first now bytes whole last → KeepsFloor G first now
+        → ((verdict : ScriptVerdict)
+        × ConsumerIsOver ghosts most first now source' bytes verdict whole last)
+        ⊎ ScriptGave G GoesOn first now bytes whole last → KeepsFloor G first now
     part_keeps bytes whole last (inl (verdict, over)) = (over_keeps verdict bytes whole last over).1
     part_keeps bytes whole last (inr gave) = gave.1
 
-    pub floor_of : (end : End) → Ended ghosts most first now (flow source source' sink sink') end
+    pub floor_of : (end : ScriptEnd)
+        → Ended ghosts most first now (flow source source' sink sink') end
         → KeepsFloor G first now
     floor_of (ends.Over verdict) run =
         (over_keeps verdict run.taken run.ends.0 run.ends.1 run.ends.2).1
@@ -196,15 +199,15 @@ module _ {K : Type 0} (G : keepers.Ghosts K) where
     floor_of ends.Long run = run.ends.1.1
 
     module _ (keeper : K)
-        (history_stands : (world : World) → Stands G now.script world
+        (history_stands : (world : World) → ScriptStands G now.script world
         → StandsFor nothing 0 (history world.turns) (G.told keeper) (G.count keeper))
-        (lawful : (world : World) → Stands G now.script world
+        (lawful : (world : World) → ScriptStands G now.script world
         → IsLawfulWorld world)
-        (forced : (world : World) → Stands G now.script world
+        (forced : (world : World) → ScriptStands G now.script world
         → IfTold (G.told keeper) (PagesForceOldLocks world))
       where
         -- where a run stood that ended here
-        abbrev reached : List Line → World → List ℕ → List ℕ → ℕ → Reached
+        abbrev reached : List Line → World → List ℕ → List ℕ → ℕ → ScriptReached
         reached script world output rest count = record {
           flow = flow source source' sink sink';
           script = script;
@@ -215,9 +218,10 @@ module _ {K : Type 0} (G : keepers.Ghosts K) where
           most = most;
         }
 
-        by_run : (end : End) (ended : Ended ghosts most first now (flow source source' sink sink')
+        by_run : (end : ScriptEnd)
+            (ended : Ended ghosts most first now (flow source source' sink sink')
             end) (rest output : List ℕ) (ran : HasRun G now.script ended.taken rest output)
-            → EndsAs end (reached ran.lines ran.world output rest (length ended.taken))
+            → ScriptEndsAs end (reached ran.lines ran.world output rest (length ended.taken))
             → IsDrive G.can_count most (flow source source' sink sink') (G.told keeper)
             (G.count keeper) end
         by_run end ended rest output ran how = record {
@@ -241,7 +245,8 @@ module _ {K : Type 0} (G : keepers.Ghosts K) where
         wrote_in_part : (bytes rest whole last : List ℕ)
             (ran : HasRunLast G now.script bytes rest whole last) (n : ℕ) → n ≤ length last
             → Takes sink sink' (whole ++ take n last)
-            → WroteInPart (ran.earlier ++ ran.last ∷ []) ran.world (whole ++ last) n sink sink'
+            → ScriptWroteInPart (ran.earlier ++ ran.last ∷ []) ran.world
+            (whole ++ last) n sink sink'
         wrote_in_part bytes rest whole last ran n within wrote = record {
           earlier = ran.earlier;
           last = ran.last;
@@ -256,10 +261,10 @@ module _ {K : Type 0} (G : keepers.Ghosts K) where
           written = wrote;
         }
 
-        over_drive : (verdict : Verdict)
+        over_drive : (verdict : ScriptVerdict)
             (ended : Ended ghosts most first now (flow source source' sink sink')
             (ends.Over verdict)) (whole last : List ℕ)
-            → IsOver ghosts most first now source' ended.taken verdict whole last
+            → ConsumerIsOver ghosts most first now source' ended.taken verdict whole last
             → Takes sink sink' (whole ++ last)
             → IsDrive G.can_count most (flow source source' sink sink') (G.told keeper)
             (G.count keeper) (ends.Over verdict)
@@ -276,8 +281,8 @@ module _ {K : Type 0} (G : keepers.Ghosts K) where
             absurd breaks.2
         over_drive verdicts.Broken ended whole last (inr (more, breaks, room)) wrote = of breaks.2.1
           where
-            of : BeginsWrong breaks.2.0.world now.held
-                ⊎ (HasNo 10 now.held × (most_line < length now.held) × IsTrue more)
+            of : BeginsNoScript breaks.2.0.world now.held
+                ⊎ (HasNo 10 now.held × (most_script_line < length now.held) × IsTrue more)
                 → IsDrive G.can_count most (flow source source' sink sink') (G.told keeper)
                 (G.count keeper) (ends.Over verdicts.Broken)
             of (inl wrong) =
@@ -291,9 +296,9 @@ module _ {K : Type 0} (G : keepers.Ghosts K) where
 
         part_drive : (ended : Ended ghosts most first now (flow source source' sink sink')
             ends.WriteFault) (whole last : List ℕ) (n : ℕ)
-            → ((verdict : Verdict)
-            × IsOver ghosts most first now source' ended.taken verdict whole last)
-            ⊎ Gave G GoesOn first now ended.taken whole last
+            → ((verdict : ScriptVerdict)
+            × ConsumerIsOver ghosts most first now source' ended.taken verdict whole last)
+            ⊎ ScriptGave G GoesOn first now ended.taken whole last
             → 0 < length last → n ≤ length last → Takes sink sink' (whole ++ take n last)
             → IsDrive G.can_count most (flow source source' sink sink') (G.told keeper)
             (G.count keeper) ends.WriteFault
@@ -321,7 +326,7 @@ module _ {K : Type 0} (G : keepers.Ghosts K) where
             (inr (wrote_in_part ended.taken rest due printed ran 0 (omega arith)
             (subst (Takes sink sink') (sym (append-nil due)) wrote)))
 
-        pub drive_of : (end : End)
+        pub drive_of : (end : ScriptEnd)
             → Ended ghosts most first now (flow source source' sink sink') end
             → IsDrive G.can_count most (flow source source' sink sink') (G.told keeper)
             (G.count keeper) end

@@ -5,17 +5,17 @@ use Rattle.asp_base.specs.Outside.{Gives, IsAtEnd, Takes}
 use Rattle.plain_words.specs.Words.{HasNo, SplitsAt}
 use Rattle.session_machine.specs.declared.item.Item.{Item}
 use Rattle.session_machine.specs.History.{nothing}
-use Rattle.shard_core.specs.Standing.{StandsFor}
+use Rattle.shard_core.specs.ShardStands.{StandsFor}
 use Rattle.page_script.specs.declared.line.Line.{Line}
-use Rattle.page_script.specs.Lines.{line_text, IsLine, most_line}
+use Rattle.page_script.specs.Lines.{line_text, IsScriptLine, most_script_line}
 use Rattle.page_script.specs.World.{World, history, MayStandNext, WorldStep, IsWorldRun, IsLawfulWorld, PagesForceOldLocks}
-use Rattle.page_script.specs.Standing.{IfTold}
-use Rattle.script_runner.specs.declared.verdict.Verdict.{Verdict}
-use Rattle.script_runner.specs.declared.verdict.Verdict.TheVariants.{Whole, Broken}
-use Rattle.stream_run.specs.Flow.{Flow}
-use Rattle.stream_run.specs.Status.{status_number as status_with}
-use Rattle.stream_run.specs.declared.ending.End as run
-use Rattle.stream_run.specs.declared.ending.End.TheVariants.{Over, ReadFault, WriteFault, NoMemory, Long}
+use Rattle.page_script.specs.ScriptStands.{IfTold}
+use Rattle.script_runner.specs.declared.script_verdict.ScriptVerdict.{ScriptVerdict}
+use Rattle.script_runner.specs.declared.script_verdict.ScriptVerdict.TheVariants.{Whole, Broken}
+use Rattle.command_loop.specs.Flow.{Flow}
+use Rattle.command_loop.specs.Status.{status_of_run as status_with}
+use Rattle.command_loop.specs.declared.ending.RunEnd as run
+use Rattle.command_loop.specs.declared.ending.RunEnd.TheVariants.{Over, ReadFault, WriteFault, NoMemory, Long}
 
 -- ---- lines in bytes
 
@@ -25,30 +25,30 @@ script_text [] = []
 script_text (line ∷ script) = line_text line ++ 10 ∷ script_text script
 
 -- each of them is a line of a script: its numbers and lengths are in range
-abbrev pub AreLines : List Line → Type 0
-AreLines script = AllByRecursion (λ line. IsLine (line_text line) line) script
+abbrev pub AreScriptLines : List Line → Type 0
+AreScriptLines script = AllByRecursion (λ line. IsScriptLine (line_text line) line) script
 
 -- The rest begins with a whole line, which is no line of a script that may follow in this world.
-pub record BeginsWrong (world : World) (rest : List ℕ) : Type 0 where
+pub record BeginsNoScript (world : World) (rest : List ℕ) : Type 0 where
   pub text : List ℕ
   pub behind : List ℕ
   pub split : SplitsAt 10 rest text behind
-  pub none : (line : Line) → IsLine text line → MayStandNext world line → ⊥
+  pub none : (line : Line) → IsScriptLine text line → MayStandNext world line → ⊥
 
 -- the rest is no whole line: it is longer than a line may be, or the input ended inside it
 abbrev pub IsUnfinished : Option (List ℕ × List ℕ) → List ℕ → Type 0
 IsUnfinished source' rest =
-    HasNo 10 rest × ((most_line < length rest) ⊎ ((rest ≢ []) × IsAtEnd source'))
+    HasNo 10 rest × ((most_script_line < length rest) ⊎ ((rest ≢ []) × IsAtEnd source'))
 
 -- ---- endings
 
 -- how a run ends
-abbrev pub End : Type 0
-End = run.End Verdict
+abbrev pub ScriptEnd : Type 0
+ScriptEnd = run.RunEnd ScriptVerdict
 
 -- The last line is a step whose print failed: all that was printed before it was written, and so
 -- many bytes of its own print.
-pub record WroteInPart (script : List Line) (world : World) (output : List ℕ) (count : ℕ)
+pub record ScriptWroteInPart (script : List Line) (world : World) (output : List ℕ) (count : ℕ)
     (sink sink' : Option (List ℕ)) : Type 0 where
   pub earlier : List Line
   pub last : Line
@@ -64,7 +64,7 @@ pub record WroteInPart (script : List Line) (world : World) (output : List ℕ) 
 
 -- Where a run stood when it ended: the flow of its bytes, the lines that were run, the world after
 -- them and what they print, the rest behind them, and how many bytes were taken of the most.
-pub record Reached : Type 0 where
+pub record ScriptReached : Type 0 where
   pub flow : Flow
   pub script : List Line
   pub world : World
@@ -74,33 +74,35 @@ pub record Reached : Type 0 where
   pub most : ℕ
 
 -- all that was printed was written
-abbrev pub WroteAll : Reached → Type 0
+abbrev pub WroteAll : ScriptReached → Type 0
 WroteAll r = Takes r.flow.sink r.flow.sink' r.output
 
 -- so many bytes of the last print, and all before it, were written
-abbrev pub WroteLast : Reached → ℕ → Type 0
-WroteLast r count = WroteInPart r.script r.world r.output count r.flow.sink r.flow.sink'
+abbrev pub WroteLast : ScriptReached → ℕ → Type 0
+WroteLast r count = ScriptWroteInPart r.script r.world r.output count r.flow.sink r.flow.sink'
 
 -- What holds at each ending. Where memory was wanting in a step, the step was made, and its print
 -- is not written; or it was not made.
-abbrev pub EndsAs : End → Reached → Type 0
-EndsAs (Over Whole) r = IsAtEnd r.flow.source' × (r.rest ≡ []) × (r.count < r.most) × WroteAll r
-EndsAs (Over Broken) r =
-    (BeginsWrong r.world r.rest ⊎ (IsUnfinished r.flow.source' r.rest × (r.count < r.most)))
+abbrev pub ScriptEndsAs : ScriptEnd → ScriptReached → Type 0
+ScriptEndsAs (Over Whole) r =
+    IsAtEnd r.flow.source' × (r.rest ≡ []) × (r.count < r.most) × WroteAll r
+ScriptEndsAs (Over Broken) r =
+    (BeginsNoScript r.world r.rest ⊎ (IsUnfinished r.flow.source' r.rest × (r.count < r.most)))
     × WroteAll r
-EndsAs ReadFault r = HasNo 10 r.rest × (length r.rest ≤ most_line) × (r.count < r.most) × WroteAll r
-EndsAs WriteFault r = (n : ℕ) × WroteLast r n
-EndsAs NoMemory r = WroteAll r ⊎ WroteLast r 0
-EndsAs Long r = HasNo 10 r.rest × (r.count ≡ r.most) × WroteAll r
+ScriptEndsAs ReadFault r =
+    HasNo 10 r.rest × (length r.rest ≤ most_script_line) × (r.count < r.most) × WroteAll r
+ScriptEndsAs WriteFault r = (n : ℕ) × WroteLast r n
+ScriptEndsAs NoMemory r = WroteAll r ⊎ WroteLast r 0
+ScriptEndsAs Long r = HasNo 10 r.rest × (r.count ≡ r.most) × WroteAll r
 
 -- the exit status of what was found
-abbrev pub verdict_number : Verdict → ℕ
-verdict_number Whole = 0
-verdict_number Broken = 3
+abbrev pub script_verdict_status : ScriptVerdict → ℕ
+script_verdict_status Whole = 0
+script_verdict_status Broken = 3
 
 -- the exit status of an ending: 4 to 7 where it was stopped
-abbrev pub status_number : End → ℕ
-status_number end = status_with verdict_number end
+abbrev pub status_of_script : ScriptEnd → ℕ
+status_of_script end = status_with script_verdict_status end
 
 -- ---- a run
 
@@ -111,7 +113,7 @@ status_number end = status_with verdict_number end
 -- says which counts of faults the keeper's type can have; told and faults are what the keeper tells
 -- and counts after the run.)
 pub record IsDrive (CanCount : ℕ → Type 0) (most : ℕ) (f : Flow)
-    (told : Option (List ℕ → Option Item)) (faults : ℕ) (end : End) : Type 0 where
+    (told : Option (List ℕ → Option Item)) (faults : ℕ) (end : ScriptEnd) : Type 0 where
   pub bytes : List ℕ
   pub script : List Line
   pub rest : List ℕ
@@ -120,13 +122,13 @@ pub record IsDrive (CanCount : ℕ → Type 0) (most : ℕ) (f : Flow)
   pub given : Gives f.source f.source' bytes
   pub within : length bytes ≤ most
   pub spelled : bytes ≡ script_text script ++ rest
-  pub lines : AreLines script
+  pub lines : AreScriptLines script
   pub run : IsWorldRun script world output
   pub counts : AllByRecursion (λ e. CanCount e.faults) (history world.turns)
   pub stands : StandsFor nothing 0 (history world.turns) told faults
   pub lawful : IsLawfulWorld world
   pub forced : IfTold told (PagesForceOldLocks world)
-  pub ends : EndsAs end (record {
+  pub ends : ScriptEndsAs end (record {
     flow = f;
     script = script;
     world = world;
@@ -139,7 +141,7 @@ pub record IsDrive (CanCount : ℕ → Type 0) (most : ℕ) (f : Flow)
 -- the text is a script: lines that lead from the empty world to some world
 abbrev pub IsScript : List ℕ → Type 0
 IsScript text = (script : List Line) × (world : World) × (output : List ℕ)
-    × (text ≡ script_text script) × AreLines script × IsWorldRun script world output
+    × (text ≡ script_text script) × AreScriptLines script × IsWorldRun script world output
 
 -- the source tells an input that is a script
 abbrev pub TellsScript : Option (List ℕ × List ℕ) → Type 0

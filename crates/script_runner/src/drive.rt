@@ -3,16 +3,16 @@ ghost use Rattle.std.specs.Prelude.{◌≡◌, ◌⊎◌, ◌≤◌};
 ghost use Rattle.asp_base.specs.Causes.{Rose};
 ghost use Rattle.asp_base.specs.Limits.{most_input};
 ghost use Rattle.keeper.specs.Items.{IsEmptyTold};
-ghost use Rattle.script_runner.specs.Drive.{End, IsDrive, TellsScript, TellsFewer, status_number};
-ghost use Rattle.stream_run.specs.Flow.{flow};
+ghost use Rattle.script_runner.specs.Drive.{ScriptEnd, IsDrive, TellsScript, TellsFewer, status_of_script};
+ghost use Rattle.command_loop.specs.Flow.{flow};
 
 use crate::driver::Driver;
 use asp_base::{Sink, Source};
+use command_loop::run;
 use held_lines::HeldLines;
 use keeper::{Keeper, Ran};
 use page_script::Script;
 use std::alloc::Global;
-use stream_run::run;
 
 /// Runs the page script on the source, writes the line of each step before the next line is run,
 /// and hands the keeper back. At most `most` bytes are taken, at most 2^40.
@@ -34,7 +34,7 @@ pub fn run_drive<S: Source, T: Sink, K: Keeper>(
     requires empty { IsEmptyTold (K.told keeper) }
 
     // There is one ending, whose number is the status, and one run that ended so.
-    ensures ran { (end : End) × (result.status ≡ status_number end)
+    ensures ran { (end : ScriptEnd) × (result.status ≡ status_of_script end)
         × IsDrive K.can_count most
         (flow (S.told source.old) (S.told source.new) (T.taken sink.old) (T.taken sink.new))
         (K.told result.keeper) (K.count result.keeper) end }

@@ -1,11 +1,11 @@
 //! A script that is run line by line.
 
-use crate::Verdict;
+use crate::ScriptVerdict;
 use asp_base::NoMemory;
+use command_loop::{Consumer, Stepped};
 use held_lines::HeldLines;
 use keeper::Keeper;
-use page_script::{LineEnd, MOST_LINE, Script};
-use stream_run::{Consumer, Step};
+use page_script::{LineEnd, MOST_SCRIPT_LINE, Script};
 
 /// A script, the bytes of it that are held, and what its last line printed.
 #[derive(Drop)]
@@ -20,17 +20,17 @@ pub struct Driver<K> {
 
 impl<K: Keeper> Consumer for Driver<K> {
     ghost use Rattle.std.specs.Prelude.{length, []};
-    ghost use Rattle.script_runner.specs.Running.{Went, Waits, Gave, Lacks};
+    ghost use Rattle.script_runner.specs.ScriptRunning.{ScriptWent, ScriptWaits, ScriptGave, ScriptLacks};
 
-    type Over = Verdict;
+    type Over = ScriptVerdict;
 
-    ghost went = { Went ⟦<K as Keeper>⟧ };
+    ghost went = { ScriptWent ⟦<K as Keeper>⟧ };
 
-    ghost waits = { Waits };
+    ghost waits = { ScriptWaits };
 
-    ghost gave = { Gave ⟦<K as Keeper>⟧ };
+    ghost gave = { ScriptGave ⟦<K as Keeper>⟧ };
 
-    ghost lacks = { Lacks ⟦<K as Keeper>⟧ };
+    ghost lacks = { ScriptLacks ⟦<K as Keeper>⟧ };
 
     ghost work = { λ now. length now.held };
 
@@ -40,13 +40,13 @@ impl<K: Keeper> Consumer for Driver<K> {
         self.held.feed(piece)
     }
 
-    fn step(&mut self, more: bool) -> Step<Verdict> {
+    fn step(&mut self, more: bool) -> Stepped<ScriptVerdict> {
         self.print.clear();
         let Some(len) = self.held.first_line() else {
-            if more && self.held.len() > MOST_LINE {
-                return Step::Over(Verdict::Broken);
+            if more && self.held.len() > MOST_SCRIPT_LINE {
+                return Stepped::Over(ScriptVerdict::Broken);
             }
-            return Step::More;
+            return Stepped::More;
         };
         match self
             .script
@@ -54,19 +54,19 @@ impl<K: Keeper> Consumer for Driver<K> {
         {
             LineEnd::Done => {
                 self.held.take_line(len);
-                Step::Did
+                Stepped::Did
             }
-            LineEnd::NotALine => Step::Over(Verdict::Broken),
-            LineEnd::NoMemory => Step::NoMemory,
+            LineEnd::NotALine => Stepped::Over(ScriptVerdict::Broken),
+            LineEnd::NoMemory => Stepped::NoMemory,
         }
     }
 
-    fn finish(&mut self) -> Result<Verdict, NoMemory> {
+    fn finish(&mut self) -> Result<ScriptVerdict, NoMemory> {
         self.print.clear();
         Ok(if self.held.is_empty() {
-            Verdict::Whole
+            ScriptVerdict::Whole
         } else {
-            Verdict::Broken
+            ScriptVerdict::Broken
         })
     }
 

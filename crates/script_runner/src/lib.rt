@@ -3,7 +3,7 @@
 
 mod drive;
 mod driver;
-mod verdict;
+mod script_verdict;
 
 pub use drive::run_drive;
-pub use verdict::{End, Verdict};
+pub use script_verdict::{ScriptEnd, ScriptVerdict};

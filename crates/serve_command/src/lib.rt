@@ -1,8 +1,8 @@
 //! The command `serve`: connections served over one store, by the words of a command line.
 #![tactic(auto)]
 
-mod serving;
-mod words;
+mod served_words;
+mod words_of_serve;
 
-pub use serving::serve;
-pub use words::{ServeWords, serve_words};
+pub use served_words::serve;
+pub use words_of_serve::{ServeWords, serve_words};

@@ -2,7 +2,7 @@
 ghost use Rattle.std.specs.Prelude.{◌≡◌, All, None, length, IfOk};
 
 use crate::memory::{DONE, MemoryWorker, joined, worker};
-use crate::serving::serve_new;
+use crate::serve_runs::serve_new;
 use asp_base::Gate;
 use std::alloc::Global;
 use std::str;

@@ -3,7 +3,7 @@ ghost use Rattle.std.specs.Prelude.{◌≡◌, All, None, length, IfOk};
 
 use crate::clients::{ACQUIRE, Clients, NOTHING, OPEN, STEP, Steps, ask_of, client, code_after};
 use crate::memory::{sink, source};
-use crate::serving::{Kept, find_all, serve_new};
+use crate::serve_runs::{Kept, find_all, serve_new};
 use asp_base::{NoMemory, OpenGate};
 use asp_messages::{Reply, push, push_number, spell_ask, spell_dated, then_number};
 use journal_replay::run_replay;

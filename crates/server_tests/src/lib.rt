@@ -13,7 +13,7 @@ mod memory;
 #[cfg(test)]
 mod rude_peers;
 #[cfg(test)]
-mod serving;
+mod serve_runs;
 #[cfg(test)]
 mod sockets;
 #[cfg(test)]

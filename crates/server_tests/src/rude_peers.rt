@@ -1,7 +1,7 @@
 //! The door over a listener: peers that read nothing, a lack of descriptors, and what it counts.
 
 use crate::memory::{DONE, MISSING, joined};
-use crate::serving::serve_new;
+use crate::serve_runs::serve_new;
 use crate::sockets::listen;
 use asp_base::{Failed, HostClock, OpenGate};
 use std::alloc::Global;

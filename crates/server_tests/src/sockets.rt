@@ -2,7 +2,7 @@
 ghost use Rattle.visit_core.specs.Terms.{EndingFits};
 
 use crate::memory::{BAD, DONE, joined};
-use crate::serving::{Found, Kept, find_all, serve_new};
+use crate::serve_runs::{Found, Kept, find_all, serve_new};
 use asp_base::{Bytes, Clock, HostClock, OpenGate};
 use page_link::{TcpLink, VisitEnd, run_visit};
 use std::alloc::Global;

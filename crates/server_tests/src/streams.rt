@@ -3,7 +3,7 @@ ghost use Rattle.std.specs.Prelude.{IfOk};
 ghost use Rattle.state_store.specs.Passes.{IsPassOf};
 
 use crate::memory::{BAD, DONE, LAST_COOKIE, MISSING, clock, joined, keepers, sink, source};
-use crate::serving::read_item;
+use crate::serve_runs::read_item;
 use asp_base::{ListClock, MemorySink, MemorySource, OpenGate};
 use keeper::MapKeeper;
 use state_store::{FreshStore, Pass, Store};

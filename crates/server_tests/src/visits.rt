@@ -2,7 +2,7 @@
 ghost use Rattle.std.specs.Prelude.{None};
 
 use crate::memory::{DONE, clock};
-use crate::serving::{Found, Kept, find_all, serve_new};
+use crate::serve_runs::{Found, Kept, find_all, serve_new};
 use crate::sockets::{listen, serve_some};
 use asp_base::{Clock, Failed, HostClock, ListClock, MemorySink, OpenGate};
 use page_link::{Link, TcpLink};

@@ -111,7 +111,8 @@ fn stored(
     ends: u64,
 ) -> Verdict
     ensures kind { result.kind ≡ kind }
-    ensures change { result.change ≡ Change.Store body_of_request minutes fresh holder touched ends }
+    ensures change { result.change
+        ≡ Change.Store body_of_request minutes fresh holder touched ends }
 {
     Verdict {
         kind,

@@ -21,16 +21,16 @@ use Rattle.session_machine.specs.History.{DrawFits, IsFreshDraw, has_risen}
 use Rattle.session_machine.specs.Profiles.{newest}
 use Rattle.session_machine.proofs.MachineLemmas.{EffectFits}
 use Rattle.session_machine.specs.Verdicts.{effect_of, reply_of, changed}
-use Rattle.keeper.specs.declared.errors.KeepError.{KeepError}
-use Rattle.keeper.specs.declared.errors.KeepError.TheVariants as errors
+use Rattle.keeper.specs.declared.keep_error.KeepError.{KeepError}
+use Rattle.keeper.specs.declared.keep_error.KeepError.TheVariants as errors
 use Rattle.keeper.specs.Due.{TellsDue}
 use Rattle.keeper.specs.Items.{StillTells, TellsItem, TellsSets}
 use Rattle.shard_core.specs.Acting.{IsOutOfCookies, TakesStep, TellsStep, refusal_of}
 use Rattle.shard_core.specs.declared.shard.Swept.{Swept}
 use Rattle.shard_core.specs.declared.shard.Swept.TheVariants as swept
-use Rattle.shard_core.specs.Standing.{StandsFor, asked_entry}
+use Rattle.shard_core.specs.ShardStands.{StandsFor, asked_entry}
 use Rattle.shard_core.specs.Sweeping.{TellsRemoved, IfRemoved, IsUnmoved, refused_look, swept_entry}
-use Rattle.shard_core.proofs.StandingLemmas.{asked-stands, decided-fits, swept-stands}
+use Rattle.shard_core.proofs.ShardLemmas.{asked-stands, decided-fits, swept-stands}
 
 -- a keeper that tells on over two calls tells on over both
 pub still_tells : (old mid new : Option (List ℕ → Option Item)) → StillTells old mid

@@ -1,7 +1,7 @@
 -- What a keeper answers where the database refuses, or a row says nothing that it can use.
 use Rattle.std.specs.Prelude.{◌≡◌, Option, Some, None, Result, Ok, Err, IfErr}
-use Rattle.keeper.specs.declared.errors.KeepError.{KeepError}
-use Rattle.keeper.specs.declared.errors.KeepError.TheVariants.{Fault, NoMemory}
+use Rattle.keeper.specs.declared.keep_error.KeepError.{KeepError}
+use Rattle.keeper.specs.declared.keep_error.KeepError.TheVariants.{Fault, NoMemory}
 use Rattle.sqlite.specs.declared.error.Error.{Error}
 use Rattle.sqlite.specs.declared.error.Error.TheVariants.{SqliteFailure, QueryReturnedNoRows}
 use Rattle.sqlite.specs.declared.error.ErrorCode.TheVariants.{OutOfMemory}
@@ -14,9 +14,9 @@ error_of (Database (SqliteFailure OutOfMemory)) = NoMemory
 error_of _ = Fault
 
 -- the keeper's answer to what a call gave
-abbrev pub answer_of : {T : Type 0} → Result T Failure → Result T KeepError
-answer_of (Ok value) = Ok value
-answer_of (Err failure) = Err (error_of failure)
+abbrev pub keeper_answer : {T : Type 0} → Result T Failure → Result T KeepError
+keeper_answer (Ok value) = Ok value
+keeper_answer (Err failure) = Err (error_of failure)
 
 -- the failure is no want of memory
 abbrev pub IsFault : Failure → Type 0

@@ -1,9 +1,9 @@
 -- A keeper over a connection, as contracts see it, and how it counts.
 use Rattle.std.specs.Prelude.{ℕ, ◌-◌, ◌^◌, min, refl, Result, Ok, Err}
 use Rattle.std.specs.Coded.{Coded, code_by, coded×, coded_ℕ}
-use Rattle.asp_base.specs.InMemory.{one_more}
-use Rattle.keeper.specs.declared.errors.KeepError.{KeepError}
-use Rattle.keeper.specs.declared.errors.KeepError.TheVariants.{Fault, NoMemory}
+use Rattle.asp_base.specs.InMemory.{counted_once_more}
+use Rattle.keeper.specs.declared.keep_error.KeepError.{KeepError}
+use Rattle.keeper.specs.declared.keep_error.KeepError.TheVariants.{Fault, NoMemory}
 
 -- A keeper over a connection, and its count of faults.
 pub record OverDatabase (C : Type 0) : Type 0 where
@@ -24,4 +24,4 @@ told_faults faults = min faults (2 ^ 64 - 1)
 abbrev pub faults_after : {T : Type 0} → ℕ → Result T KeepError → ℕ
 faults_after faults (Ok value) = faults
 faults_after faults (Err NoMemory) = faults
-faults_after faults (Err Fault) = one_more faults
+faults_after faults (Err Fault) = counted_once_more faults

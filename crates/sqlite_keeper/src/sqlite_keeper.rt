@@ -2,8 +2,8 @@
 ghost use Rattle.std.specs.Prelude.{◌≡◌, ◌<◌, ◌-◌, ◌^◌, None, IfOk, IfSome, min, pos};
 ghost use Rattle.asp_messages.specs.Ranges.{KeyFits};
 ghost use Rattle.session_machine.specs.Liveness.{ItemFits};
-ghost use Rattle.keeper.specs.Causes.{HasKeepCause};
-ghost use Rattle.sqlite_keeper.specs.Failures.{answer_of};
+ghost use Rattle.keeper.specs.KeeperCauses.{HasKeepCause};
+ghost use Rattle.sqlite_keeper.specs.Failures.{keeper_answer};
 ghost use Rattle.sqlite_keeper.specs.Keeping.{faults_after, told_faults};
 
 use crate::failure::Failure;
@@ -86,7 +86,7 @@ impl<S: Alter> SqliteKeeper<S> {
     /// The answer to what a call gave: want of memory where the database says so, and every other
     /// failure is a fault, which is counted. Each call of the keeper answers by it.
     fn answer<T>(&mut self, given: Result<T, Failure>) -> Result<T, KeepError>
-        ensures told { result ≡ answer_of given }
+        ensures told { result ≡ keeper_answer given }
         ensures counted { self.new.faults ≡ faults_after self.old.faults result }
     {
         match given {

@@ -2,13 +2,13 @@
 //! source of cookies.
 #![tactic(auto)]
 
-mod desk;
 mod new_shards;
 mod pass;
 mod store;
+mod store_desk;
 mod sweep;
 
-pub use desk::{Desk, Note};
 pub use pass::{Pass, Roll};
 pub use store::{Answer, FreshStore, Store, shard_of};
+pub use store_desk::{Note, StoreDesk};
 pub use sweep::{SweepCount, SweepEnd};

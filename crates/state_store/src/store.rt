@@ -1,10 +1,10 @@
 //! The store and its calls.
 ghost use Rattle.std.specs.Prelude.{◌≡◌, ◌≤◌, ◌<◌, All, length};
-ghost use Rattle.turnstile.specs.Turns.{terms_of};
+ghost use Rattle.turnstile.specs.Turns.{turnstile_terms};
 ghost use Rattle.state_store.specs.Shards.{shard_of_key};
 
-use crate::desk::Desk;
 use crate::new_shards::{NewShards, open_shards};
+use crate::store_desk::StoreDesk;
 use crate::sweep::sweep_shard;
 use crate::{Note, Pass, Roll, SweepCount, SweepEnd};
 use asp_base::{Gate, NoMemory};
@@ -14,17 +14,17 @@ use keeper::Keeper;
 use std::alloc::Global;
 use std::snapshot::Snapshot;
 use std::sync::{Arc, Wait};
-use turnstile::{Stands, Terms, Turnstile};
+use turnstile::{Stands, TurnTerms, Turnstile};
 
 /// Sessions that threads share, in 1 to 64 shards. Each shard is behind a turnstile of its own.
 #[derive(Drop)]
 pub struct Store<K: Keeper>
 where
-    Desk<K>: Stands,
+    StoreDesk<K>: Stands,
 {
-    turnstiles: Vec<Turnstile<Desk<K>>>,
-    terms: Terms,
-    ghost one_terms: { All (λ turns. terms_of turns ≡ terms) turnstiles.items },
+    turnstiles: Vec<Turnstile<StoreDesk<K>>>,
+    terms: TurnTerms,
+    ghost one_terms: { All (λ turns. turnstile_terms turns ≡ terms) turnstiles.items },
     ghost shards: { (1 ≤ length turnstiles.items) × (length turnstiles.items ≤ 64) },
 }
 
@@ -32,7 +32,7 @@ where
 #[derive(Drop)]
 pub struct FreshStore<K: Keeper>
 where
-    Desk<K>: Stands,
+    StoreDesk<K>: Stands,
 {
     pub store: Store<K>,
     pub roll: Roll<K>,
@@ -63,11 +63,11 @@ pub fn shard_of(key: &[u8], shards: u64) -> u64
 impl<K: Keeper + Drop> Store<K> {
     ghost use Rattle.std.specs.Prelude.{ℕ, ◌<◌, ◌≢◌, ◌↔◌, ◌^◌, ◌-◌, ◌+◌, [], IfOk, IsErr, IfSome, IfNone, IsNone};
     ghost use Rattle.asp_messages.specs.Ranges.{RequestFits, ReplyFits};
-    ghost use Rattle.turnstile.specs.Rule.{end_of_places};
-    ghost use Rattle.state_store.specs.Turns.{IsAsked, FindsNoPlace, Meets};
+    ghost use Rattle.turnstile.specs.TurnRule.{end_of_places};
+    ghost use Rattle.state_store.specs.StoreTurns.{IsAsked, FindsNoPlace, Meets};
     ghost use Rattle.state_store.specs.Sweep.{Sweeps};
     ghost use Rattle.state_store.specs.NewShards.{IsNewKeeper};
-    ghost use Rattle.state_store.specs.Passes.{shards_of, first_place as store_first_place, first_cookie as store_first_cookie, last_cookie as store_last_cookie, shard_for, caller_of, passes_of, view_in, view_for, call_of, IsPassOf, IsRollOf, KnowsNothing, LocksHoldIn, TicketsNeverFall, CallersAreBelow};
+    ghost use Rattle.state_store.specs.Passes.{shards_of, first_place as store_first_place, first_cookie as store_first_cookie, last_cookie as store_last_cookie, shard_for, caller_of, passes_of, view_in, view_for, call_of, IsPassOf, IsRollOf, KnowsNothing, LocksHoldInShard, TicketsNeverFall, CallersAreBelow};
 
     /// A store with a shard for each of 1 to 64 keepers, whose cookies go from `first_cookie` to
     /// `last_cookie`, and whose places begin with `first_place` in each shard; and its roll. After
@@ -93,7 +93,7 @@ impl<K: Keeper + Drop> Store<K> {
         ensures roll { IfOk result (λ f. IsRollOf f.store f.roll) }
         ensures no_pass { IfOk result (λ f. passes_of f.roll ≡ 0) }
     {
-        let terms = Terms {
+        let terms = TurnTerms {
             first_place,
             first_number: first_cookie,
             last_number: last_cookie,
@@ -162,7 +162,7 @@ impl<K: Keeper + Drop> Store<K> {
         ensures asked { IfSome result.place (IsAsked (call_of self.now pass.old t) request
             (view_for self.now pass.old request.key) (view_for self.now pass.new request.key)
             result.reply) }
-        ensures locks { LocksHoldIn self.now pass.new }
+        ensures locks { LocksHoldInShard self.now pass.new }
         ensures others { (shard : ℕ) → shard ≢ shard_for self.now request.key
             → view_in pass.new shard ≡ view_in pass.old shard }
         ensures no_place { IfNone result.place (FindsNoPlace
@@ -219,7 +219,7 @@ impl<K: Keeper + Drop> Store<K> {
         ensures caller { caller_of pass.new ≡ caller_of pass.old }
         ensures sweeps { Sweeps K.told (call_of self.now pass.old t) (shards_of self.now)
             (view_in pass.old) (view_in pass.new) result }
-        ensures locks { LocksHoldIn self.now pass.new }
+        ensures locks { LocksHoldInShard self.now pass.new }
         ensures never_falls { TicketsNeverFall pass.old pass.new }
     {
         let mut removed = 0;
@@ -253,7 +253,7 @@ impl<K: Keeper + Drop> Store<K> {
         ensures b { IsPassOf self.now b.new × (caller_of b.new ≡ caller_of b.old) }
         ensures meets { (shard : ℕ) → Meets (view_in a.old shard) (view_in b.old shard)
             (view_in a.new shard) (view_in b.new shard) }
-        ensures locks { LocksHoldIn self.now a.new }
+        ensures locks { LocksHoldInShard self.now a.new }
     {
         for at in 0..self.turnstiles.len() {
             self.turnstiles[at].meet(rt, &mut a.passes[at], &mut b.passes[at]);

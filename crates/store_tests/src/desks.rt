@@ -5,8 +5,8 @@ ghost use Rattle.asp_messages.specs.Ranges.{RequestFits};
 use crate::given::{LAST_COOKIE, on_key, write};
 use asp_base::{Bytes, NoMemory};
 use asp_messages::{Ask, Reply, Request};
-use desk::{Acted, Desk};
 use keeper::ListKeeper;
+use plain_desk::{Acted, PlainDesk};
 use shard_core::Swept;
 use std::alloc::Global;
 use std::test::Fail;
@@ -25,7 +25,7 @@ fn granted(alloc: Global, cookie: u64) -> Result<Acted, NoMemory> {
 }
 
 /// What the desk answers.
-fn act(desk: &mut Desk<ListKeeper>, request: Request, t: u64) -> Acted
+fn act(desk: &mut PlainDesk<ListKeeper>, request: Request, t: u64) -> Acted
     requires request { RequestFits request }
     requires moment { t ≤ 2 ^ 62 }
 {
@@ -33,7 +33,7 @@ fn act(desk: &mut Desk<ListKeeper>, request: Request, t: u64) -> Acted
 }
 
 /// What the desk removes.
-fn sweep_one(desk: &mut Desk<ListKeeper>, t: u64) -> Swept
+fn sweep_one(desk: &mut PlainDesk<ListKeeper>, t: u64) -> Swept
     requires { t ≤ 2 ^ 62 }
 {
     desk.sweep_one(t)
@@ -42,7 +42,7 @@ fn sweep_one(desk: &mut Desk<ListKeeper>, t: u64) -> Swept
 #[test]
 fn the_last_cookie_is_granted_once(rt: HostRuntime) -> Result<(), Fail> {
     let alloc = rt.alloc();
-    let mut desk = Desk::new(alloc, ListKeeper::new(alloc), LAST_COOKIE, LAST_COOKIE);
+    let mut desk = PlainDesk::new(alloc, ListKeeper::new(alloc), LAST_COOKIE, LAST_COOKIE);
     let done = Acted {
         reply: Reply::Done,
         drawn: 0,
@@ -67,7 +67,7 @@ fn the_last_cookie_is_granted_once(rt: HostRuntime) -> Result<(), Fail> {
 #[test]
 fn expired_items_are_removed_in_their_order(rt: HostRuntime) -> Result<(), Fail> {
     let alloc = rt.alloc();
-    let mut desk = Desk::new(alloc, ListKeeper::new(alloc), 1, LAST_COOKIE);
+    let mut desk = PlainDesk::new(alloc, ListKeeper::new(alloc), 1, LAST_COOKIE);
     act(&mut desk, write(alloc, b'a', 1)?, 0);
     act(&mut desk, write(alloc, b'b', 1)?, 0);
     assert_eq!(rt; sweep_one(&mut desk, 59_999), Swept::Nothing);

@@ -2,7 +2,7 @@
 //! once, under as much of its contract as they need.
 ghost use Rattle.std.specs.Prelude.{◌≡◌, ◌≤◌, ◌^◌, [], All, length, IfOk};
 ghost use Rattle.asp_messages.specs.Ranges.{AskFits, ReplyFits, RequestFits};
-ghost use Rattle.turnstile.specs.Rule.{end_of_places};
+ghost use Rattle.turnstile.specs.TurnRule.{end_of_places};
 ghost use Rattle.state_store.specs.NewShards.{IsNewKeeper};
 ghost use Rattle.state_store.specs.Passes.{first_place as store_first_place, passes_of, IsPassOf, IsRollOf};
 

@@ -1,10 +1,10 @@
 -- A connection, as its callers see it.
 use Rattle.std.specs.Prelude.{◌≡◌, [], IsFalse}
-use Rattle.message_framing.specs.Held.{Held}
+use Rattle.message_framing.specs.ReaderState.{ReaderState}
 
 -- A connection: its reader, with the bytes that were not taken yet.
 pub record Connection : Type 0 where
-  pub reader : Held
+  pub reader : ReaderState
 
 -- all bytes were whole messages that were taken: the reader is not broken and holds no byte
 abbrev pub IsFinished : Connection → Type 0

@@ -8,9 +8,9 @@ ghost use Rattle.asp_messages.specs.Ranges.{ReplyFits};
 ghost use Rattle.asp_messages.specs.ReplyText.{head_text};
 ghost use Rattle.asp_messages.specs.RequestSpelling.{SpellsRequest};
 ghost use Rattle.asp_messages.specs.Stream.{HasNoMessage, IsHopeless, IsWaiting};
-ghost use Rattle.message_framing.specs.declared.reader.Found.TheVariants as nexts;
+ghost use Rattle.message_framing.specs.declared.message_reader.Found.TheVariants as nexts;
 ghost use Rattle.message_framing.specs.Framed.{IfFound};
-ghost use Rattle.message_framing.specs.Held.{empty_reader, fed, waiting, broken, TakesMessage};
+ghost use Rattle.message_framing.specs.ReaderState.{empty_reader, fed, waiting, broken, TakesMessage};
 ghost use Rattle.stream_core.specs.Connection.{IsFinished};
 
 use asp_base::NoMemory;

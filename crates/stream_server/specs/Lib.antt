@@ -2,11 +2,11 @@ pub mod Accepting
 pub mod Callers
 pub mod Connections
 pub mod Doors
-pub mod InMemory
+pub mod DoorInMemory
 pub mod Meeting
-pub mod Moments
-pub mod Passes
-pub mod Progress
+pub mod ServiceMoments
+pub mod WorkerPasses
+pub mod StreamProgress
 pub mod Services
 pub mod Serving
 pub mod Streams

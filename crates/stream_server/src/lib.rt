@@ -2,17 +2,17 @@
 //! connections of their doors.
 #![tactic(auto)]
 
+mod all_workers;
 mod door;
 mod memory_door;
+mod one_stream;
 mod seating;
-mod serving;
-mod stream;
 mod tcp_door;
 mod worker;
 
+pub use all_workers::{Served, serve_all};
 pub use door::{Conn, Door, StreamEnd};
 pub use memory_door::{GivenBack, MemoryDoor};
-pub use serving::{Served, serve_all};
-pub use stream::serve_stream;
+pub use one_stream::serve_stream;
 pub use tcp_door::TcpDoor;
 pub use worker::Worker;

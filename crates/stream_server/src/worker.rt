@@ -7,7 +7,7 @@ ghost use Rattle.stream_server.specs.Workers.{HasPassOf, HasWorked, HaveWorked, 
 use crate::{Door, serve_stream};
 use asp_base::{Clock, Failed, Gate};
 use keeper::Keeper;
-use state_store::{Desk, Pass, Store};
+use state_store::{Pass, Store, StoreDesk};
 use std::alloc::Global;
 use std::rt::Clock as HostTime;
 use std::sync::Wait;
@@ -18,7 +18,7 @@ use turnstile::Stands;
 #[derive(Drop)]
 pub struct Worker<D, C, K: Keeper>
 where
-    Desk<K>: Stands,
+    StoreDesk<K>: Stands,
 {
     /// Where its connections come from.
     pub door: D,

@@ -6,15 +6,16 @@ use mathlib.Core.Option.{none}
 use prog.Atomic.{either}
 use Rattle.atomic_table.specs.Table.{State, Act, step, keeps, Valid, carried_after, stepped, Allows}
 use Rattle.atomic_table.proofs.Lists.{exchanged}
-use Rattle.turnstile.specs.declared.stands.Terms.{Terms}
-use Rattle.turnstile.specs.declared.rule.SeatView.{SeatView}
-use Rattle.turnstile.specs.Rule.{end_of_places, calls_of, longer, one_if, mark, FitsHistory, IsOrdered}
-use Rattle.turnstile.specs.Steps.{SeatState, saw, with_ticket, with_draw, compared, DrawsNumber, SeesTicket, TakesTicket, TakesLonger, LearnsCount}
+use Rattle.turnstile.specs.declared.stands.TurnTerms.{TurnTerms}
+use Rattle.turnstile.specs.declared.turn_rule.SeatView.{SeatView}
+use Rattle.turnstile.specs.TurnRule.{end_of_places, calls_of, longer, one_if, mark, FitsHistory, IsOrdered}
+use Rattle.turnstile.specs.TurnSteps.{SeatState, saw, with_ticket, with_draw, compared, DrawsNumber, SeesTicket, TakesTicket, TakesLonger, LearnsCount}
 use Rattle.turnstile.proofs.Fronts.{prefix_same, prefix_nil, prefix_length, prefix_whole, prefix_shorter, longer_cases, calls_none, calls_between, all_prefix}
 use Rattle.turnstile.proofs.Seats.{one_number}
 use Rattle.turnstile.proofs.OneSeat.{of, word, FitsAt, same_ticket, same_number, same_count, stored_set, next, stays, loads, saw_fits}
 
-module _ {S E : Type 0} (stands : S → Terms → List E → Type 0) (caller : E → ℕ) (terms : Terms)
+module _ {S E : Type 0} (stands : S → TurnTerms → List E → Type 0) (caller : E → ℕ)
+    (terms : TurnTerms)
   where
     abbrev St : Type 0
     St = State (Option S) (SeatView E)
@@ -224,7 +225,8 @@ module _ {S E : Type 0} (stands : S → Terms → List E → Type 0) (caller : E
                 enters = λ is. let x = f.enters is in (
                   x.0,
                   sym (prefix_whole o.log long (subst
-                      (λ (l : List E). IsPrefix l long) x.1 mine) (prefix_length long o.log begins)),
+                      (λ (l : List E). IsPrefix l long) x.1 mine)
+                      (prefix_length long o.log begins)),
                 );
                 owns = λ n is. let x = f.owns n is in (x.0, x.1 ∙ sym (same n is));
                 counts = f.counts;

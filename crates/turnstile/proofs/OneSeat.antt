@@ -9,10 +9,10 @@ use lib.ListN.{get_elem?}
 use lib.Seq.{set-get_or}
 use Rattle.atomic_table.specs.Table.{State, keeps, stepped}
 use Rattle.atomic_table.proofs.Lists.{set_here, set_else}
-use Rattle.turnstile.specs.declared.stands.Terms.{Terms}
-use Rattle.turnstile.specs.declared.rule.SeatView.{SeatView}
-use Rattle.turnstile.specs.Rule.{end_of_places, one_if, mark, FitsHistory, Stored, IsOrdered}
-use Rattle.turnstile.specs.Steps.{saw}
+use Rattle.turnstile.specs.declared.stands.TurnTerms.{TurnTerms}
+use Rattle.turnstile.specs.declared.turn_rule.SeatView.{SeatView}
+use Rattle.turnstile.specs.TurnRule.{end_of_places, one_if, mark, FitsHistory, Stored, IsOrdered}
+use Rattle.turnstile.specs.TurnSteps.{saw}
 use Rattle.turnstile.proofs.Seats.{there, one_there, each_set, total-set, KeepsApart, apart_set}
 
 module _ {S E : Type 0} where
@@ -24,7 +24,7 @@ module _ {S E : Type 0} where
   abbrev pub word : State (Option S) (SeatView E) → ℕ → ℕ
   word s i = get_or s.words i 0
 
-module _ {E : Type 0} (caller : E → ℕ) (terms : Terms) where
+module _ {E : Type 0} (caller : E → ℕ) (terms : TurnTerms) where
   -- what the rule says of a seat, where the words are these
   abbrev pub FitsAt : List ℕ → List E → SeatView E → Type 0
   FitsAt ws log v = FitsHistory caller terms (get_or ws 0 0) (get_or ws 1 0) (get_or ws 2 0) log v
@@ -44,7 +44,8 @@ module _ {E : Type 0} where
       → KeepsApart (λ u. mark u.count) vs by v w
   same_count vs by v w e n is = inl (ap mark (sym e) ∙ is)
 
-module _ {S E : Type 0} (stands : S → Terms → List E → Type 0) (caller : E → ℕ) (terms : Terms)
+module _ {S E : Type 0} (stands : S → TurnTerms → List E → Type 0) (caller : E → ℕ)
+    (terms : TurnTerms)
   where
     abbrev St : Type 0
     St = State (Option S) (SeatView E)

@@ -6,14 +6,15 @@ use mathlib.Core.Option.{some, some-ne-none, some-injective}
 use lib.ListN.{get_elem?}
 use Rattle.atomic_table.specs.Table.{State, opening, Splits, Joins}
 use Rattle.atomic_table.proofs.Lists.{at_set, set_else}
-use Rattle.turnstile.specs.declared.stands.Terms.{Terms}
-use Rattle.turnstile.specs.declared.rule.SeatView.{SeatView}
-use Rattle.turnstile.specs.Rule.{end_of_places, calls_of, roll, to_pass, from_roll, note, with_note, with_count, used_up, one_if, mark, FitsHistory, IsOrdered}
+use Rattle.turnstile.specs.declared.stands.TurnTerms.{TurnTerms}
+use Rattle.turnstile.specs.declared.turn_rule.SeatView.{SeatView}
+use Rattle.turnstile.specs.TurnRule.{end_of_places, calls_of, roll, to_pass, from_roll, note, with_note, with_count, used_up, one_if, mark, FitsHistory, IsOrdered}
 use Rattle.turnstile.proofs.Fronts.{prefix_nil}
 use Rattle.turnstile.proofs.Seats.{at_end, at_front, set_swap, each_set, none_some, one_number, total-append, apart_more}
 use Rattle.turnstile.proofs.OneSeat.{of, FitsAt, same_ticket, same_number, same_count, stored_set, next, stays}
 
-module _ {S E : Type 0} (stands : S → Terms → List E → Type 0) (caller : E → ℕ) (terms : Terms)
+module _ {S E : Type 0} (stands : S → TurnTerms → List E → Type 0) (caller : E → ℕ)
+    (terms : TurnTerms)
   where
     abbrev St : Type 0
     St = State (Option S) (SeatView E)

@@ -11,15 +11,16 @@ use lib.ListN.{get_elem?}
 use lib.Seq.{set-get_or}
 use Rattle.atomic_table.specs.Table.{State, keeps, takes, gives, Allows}
 use Rattle.atomic_table.proofs.Lists.{set_here}
-use Rattle.turnstile.specs.declared.stands.Terms.{Terms}
-use Rattle.turnstile.specs.declared.rule.SeatView.{SeatView}
-use Rattle.turnstile.specs.Rule.{end_of_places, calls_of, one_if, FitsHistory, IsOrdered}
-use Rattle.turnstile.specs.Steps.{SeatState, entered, left, Enters, Leaves}
+use Rattle.turnstile.specs.declared.stands.TurnTerms.{TurnTerms}
+use Rattle.turnstile.specs.declared.turn_rule.SeatView.{SeatView}
+use Rattle.turnstile.specs.TurnRule.{end_of_places, calls_of, one_if, FitsHistory, IsOrdered}
+use Rattle.turnstile.specs.TurnSteps.{SeatState, entered, left, Enters, LeaveStep}
 use Rattle.turnstile.proofs.Fronts.{prefix_same, prefix_more, calls_append, calls_other}
 use Rattle.turnstile.proofs.Seats.{there, one_there, none_some, one_number}
 use Rattle.turnstile.proofs.OneSeat.{of, word, FitsAt, same_ticket, same_number, same_count, next, stays, loads}
 
-module _ {S E : Type 0} (stands : S → Terms → List E → Type 0) (caller : E → ℕ) (terms : Terms)
+module _ {S E : Type 0} (stands : S → TurnTerms → List E → Type 0) (caller : E → ℕ)
+    (terms : TurnTerms)
   where
     abbrev St : Type 0
     St = State (Option S) (SeatView E)
@@ -87,8 +88,8 @@ module _ {S E : Type 0} (stands : S → Terms → List E → Type 0) (caller : E
               refl,
               record {
                 now = refl;
-                stands_for = subst (λ (k : Terms). stands home.0 k o.log) (sym mine.0) home.2;
-                place = let at = ap (λ (k : Terms). k.first_place) mine.0 in omega (
+                stands_for = subst (λ (k : TurnTerms). stands home.0 k o.log) (sym mine.0) home.2;
+                place = let at = ap (λ (k : TurnTerms). k.first_place) mine.0 in omega (
                   arith,
                   served,
                   at,
@@ -118,7 +119,7 @@ module _ {S E : Type 0} (stands : S → Terms → List E → Type 0) (caller : E
         → v.inside ≡ true → v.number ≡ Some (caller e) → said ≡ Some e
         → stands h v.terms (v.front ++ e ∷ [])
         → Allows Rule slots by (v, (0, Some h) ∷ []) 1 (λ n. (n + 1) % 2 ^ 64)
-        (Leaves said (v, (0, Some h) ∷ []))
+        (LeaveStep said (v, (0, Some h) ∷ []))
     leaves_at slots by v h e said some_slot inside number says good s o wide me _ =
         let c : ℕ = word s 1 in
         let f = o.each by v me in
@@ -158,7 +159,7 @@ module _ {S E : Type 0} (stands : S → Terms → List E → Type 0) (caller : E
         (inl (
           h,
           set_here s.homes 0 (some (Some h)) (omega arith),
-          subst (λ (p : Terms × List E). stands h p.0 (p.1 ++ e ∷ [])) (λ i. (
+          subst (λ (p : TurnTerms × List E). stands h p.0 (p.1 ++ e ∷ [])) (λ i. (
             mine.0 i,
             whole i,
           )) good,
@@ -203,7 +204,7 @@ module _ {S E : Type 0} (stands : S → Terms → List E → Type 0) (caller : E
           subst (λ (n : ℕ). Rule (of (set s.words 1 n) hs (set s.views by w))) (sym up) rule,
           λ e' is. let t : Some e ≡ Some e' = sym says ∙ is in let one : e ≡ e' = cc in (
             (
-                let at = ap (λ (k : Terms). k.first_place) mine.0 in
+                let at = ap (λ (k : TurnTerms). k.first_place) mine.0 in
                 omega (arith, at, ap (λ (l : List E). length l) whole)),
             ap (λ (x : E). (left v x, [])) one,
           ),
@@ -216,8 +217,8 @@ module _ {S E : Type 0} (stands : S → Terms → List E → Type 0) (caller : E
     pub leaves : (slots by : ℕ) (m : SeatState S E) (h : S) (e : E) (said : Option E)
         → m.1 ≡ (0, Some h) ∷ [] → 0 < slots → m.0.inside ≡ true → m.0.number ≡ Some (caller e)
         → said ≡ Some e → stands h m.0.terms (m.0.front ++ e ∷ [])
-        → Allows Rule slots by m 1 (λ n. (n + 1) % 2 ^ 64) (Leaves said m)
+        → Allows Rule slots by m 1 (λ n. (n + 1) % 2 ^ 64) (LeaveStep said m)
     leaves slots by m h e said is some_slot inside number says good =
         subst (λ (x : List (ℕ × Slot)). Allows Rule slots by (m.0, x) 1 (λ n. (n + 1) % 2 ^ 64)
-        (Leaves said (m.0, x))) (sym is) (leaves_at slots by m.0 h e said some_slot inside number
+        (LeaveStep said (m.0, x))) (sym is) (leaves_at slots by m.0 h e said some_slot inside number
         says good)

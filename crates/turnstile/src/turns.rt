@@ -2,11 +2,11 @@
 //! one of them.
 ghost use Rattle.std.specs.Prelude.{◌≡◌, [], ◌∷◌, true, false, None, Some};
 
-use crate::rule::{
+use crate::turn_rule::{
     DrawNumber, Enter, LearnCount, Leave, MakeNote, MakePass, ReadNote, SaidEntry, SeatView,
     SeeTicket, TakeLonger, TakeRoll, TakeTicket, TurnRule,
 };
-use crate::{Stands, Terms};
+use crate::{Stands, TurnTerms};
 use asp_base::NoMemory;
 use atomic_table::{Refused, Seat, Table};
 use std::alloc::Global;
@@ -43,7 +43,7 @@ const PARKED_ON: u64 = 1 << 32;
 /// place of the entry that the turn leaves.
 #[derive(Drop)]
 pub struct Turnstile<S: Stands> {
-    table: Table<Option<S>, SeatView<S::Entry>, Terms, TurnRule<S>, Global>,
+    table: Table<Option<S>, SeatView<S::Entry>, TurnTerms, TurnRule<S>, Global>,
     /// How many callers sleep, or are about to, until a turn is left.
     sleepers: AtomicU64,
     ghost three_words: { table.shared.table_id.words ≡ 3 },
@@ -92,12 +92,12 @@ pub struct Turn<S> {
 impl<S> Turn<S> {
     ghost use types.Logic.{sem};
     ghost use Rattle.turnstile.specs.Lent.{LendsState};
-    ghost use Rattle.turnstile.specs.Turns.{state_of};
+    ghost use Rattle.turnstile.specs.Turns.{state_in_turn};
 
     /// The state, to be read and changed.
     pub fn state(&mut self) -> &mut S
         ensures* writes_back { sem 𝓛 (LendsState S.row self.entry result) }
-        ensures value { result.now ≡ state_of self.old }
+        ensures value { result.now ≡ state_in_turn self.old }
     {
         &mut self.state
     }
@@ -119,16 +119,21 @@ pub struct FreshTurns<S: Stands> {
 impl<S: Stands + Drop> Turnstile<S> {
     ghost use Rattle.std.specs.Prelude.{ℕ, ◌+◌, ◌^◌, ◌-◌, ◌<◌, ◌≤◌, ◌↔◌, ◌++◌, ◌⊎◌, length, All, IfOk, IfErr, IsErr, IfSome, IfNone};
     ghost use mathlib.Core.List.{IsPrefix};
-    ghost use Rattle.turnstile.specs.Rule.{end_of_places, with_note};
-    ghost use Rattle.turnstile.specs.Steps.{saw, with_ticket, left, compared, TurnComes, GrowsByOthers};
-    ghost use Rattle.turnstile.specs.Turns.{terms_of, first_place_of, turnstile_id, roll_home, passes_made, pass_home, caller_number, front, own_calls, ticket_seen, has_turn, state_of, IsSamePass, ExtendsByOthers};
+    ghost use Rattle.turnstile.specs.TurnRule.{end_of_places, with_note};
+    ghost use Rattle.turnstile.specs.TurnSteps.{saw, with_ticket, left, compared, TurnComes, GrowsByOthers};
+    ghost use Rattle.turnstile.specs.Turns.{turnstile_terms, first_place_of, turnstile_id, roll_home, passes_made, pass_home, caller_number, front, own_calls, ticket_seen, has_turn, state_in_turn, IsSamePass, ExtendsByOthers};
 
     /// A turnstile whose state stands for no entries yet, and its roll. After `NoMemory` the state
     /// is dropped.
-    pub fn new<R>(_rt: &R, alloc: Global, state: S, terms: Terms) -> Result<FreshTurns<S>, NoMemory>
+    pub fn new<R>(
+        _rt: &R,
+        alloc: Global,
+        state: S,
+        terms: TurnTerms,
+    ) -> Result<FreshTurns<S>, NoMemory>
         requires place { terms.first_place ≤ end_of_places }
         requires state { S.stands state terms [] }
-        ensures terms { IfOk result (λ f. terms_of f.turns ≡ terms) }
+        ensures terms { IfOk result (λ f. turnstile_terms f.turns ≡ terms) }
         ensures home { IfOk result (λ f. roll_home f.roll ≡ turnstile_id f.turns) }
         ensures no_pass { IfOk result (λ f. passes_made f.roll ≡ 0) }
     {
@@ -178,7 +183,7 @@ impl<S: Stands + Drop> Turnstile<S> {
         ensures pass { IsSamePass pass.old pass.new }
 
         // The state stands for the whole history, which is the pass's new front.
-        ensures state { IfOk result (λ t. S.stands (state_of t) (terms_of self.now)
+        ensures state { IfOk result (λ t. S.stands (state_in_turn t) (turnstile_terms self.now)
             (front pass.new)) }
         ensures front { IfOk result (λ _. ExtendsByOthers S.caller (caller_number pass.old)
             (front pass.old) (front pass.new)) }
@@ -215,7 +220,7 @@ impl<S: Stands + Drop> Turnstile<S> {
     ) -> Option<u64>
         requires home { seat.old.table_id ≡ self.now.table.shared.table_id }
         requires outside { (seat.old.me.0.ticket ≡ None) × (seat.old.me.0.inside ≡ false)
-            × (seat.old.me.0.terms ≡ terms_of self.now) }
+            × (seat.old.me.0.terms ≡ turnstile_terms self.now) }
         requires number { (n : ℕ) × (seat.old.me.0.number ≡ Some n) }
         ensures home { seat.new.table_id ≡ seat.old.table_id }
         ensures some { IfSome result (λ t. (seat.new.me ≡ (
@@ -313,7 +318,7 @@ impl<S: Stands + Drop> Turnstile<S> {
         requires home { pass_home pass.old ≡ turnstile_id self.now }
         requires turn { has_turn pass.old ≡ true }
         requires caller { S.caller entry.now ≡ caller_number pass.old }
-        requires state { S.stands (state_of turn) (terms_of self.now)
+        requires state { S.stands (state_in_turn turn) (turnstile_terms self.now)
             (front pass.old ++ entry.now ∷ []) }
         ensures pass { IsSamePass pass.old pass.new }
         ensures place { result ≡ first_place_of self.now + length (front pass.old) }
@@ -339,10 +344,10 @@ impl<S: Stands + Drop> Turnstile<S> {
     ) -> u64
         requires said { W.entry ≡ Some entry.now }
         requires home { (seat.old.table_id ≡ self.now.table.shared.table_id)
-            × (seat.old.me.0.terms ≡ terms_of self.now) }
+            × (seat.old.me.0.terms ≡ turnstile_terms self.now) }
         requires turn { (seat.old.me.0.inside ≡ true) × (seat.old.me.1 ≡ (0, None) ∷ []) }
         requires caller { seat.old.me.0.number ≡ Some (S.caller entry.now) }
-        requires state { S.stands state (terms_of self.now)
+        requires state { S.stands state (turnstile_terms self.now)
             (seat.old.me.0.front ++ entry.now ∷ []) }
         ensures home { seat.new.table_id ≡ seat.old.table_id }
         ensures place { result ≡ first_place_of self.now + length seat.old.me.0.front }

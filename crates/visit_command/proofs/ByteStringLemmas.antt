@@ -6,7 +6,7 @@ use Rattle.std.proofs.lemmas.Bool.{and_parts}
 use Rattle.std.proofs.lemmas.Bool.Decides.{nat_tests}
 use Rattle.hex.specs.Hex.{decode_of, decode_pairs, hex_digit_value}
 use Rattle.hex.proofs.HexLemmas.{decode_of-even}
-use Rattle.visit_command.specs.Words.{is_digit, are_digits, digit_value, bytes_of_digits, byte_string}
+use Rattle.visit_command.specs.VisitWords.{is_digit, are_digits, digit_value, bytes_of_digits, byte_string}
 
 digit_is : (c : ℕ) → is_digit c ≡ true → hex_digit_value c ≡ Some (digit_value c)
 digit_is c digit = grind (arith, nat_tests)

@@ -1,7 +1,7 @@
 -- A key is spelled by more than its first letter.
 use Rattle.std.proofs.Common.{◌≡◌, ℕ, ◌<◌, ◌≤◌, Bool, true, false, List, [], ◌∷◌, length, Option, Some, None, refl, arith, cond, is_some}
 use Rattle.std.specs.Prelude.{◌==◌, ◌&&◌}
-use Rattle.visit_command.specs.Words.{are_digits, byte_string, bytes_of_digits, some_bytes, key_of}
+use Rattle.visit_command.specs.VisitWords.{are_digits, byte_string, bytes_of_digits, some_bytes, key_of}
 
 none_empty : (test : Bool) → is_some (some_bytes (cond test (Some []) None)) ≡ false
 none_empty true = refl

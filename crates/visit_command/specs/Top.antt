@@ -8,7 +8,7 @@ use Rattle.visit_core.specs.declared.outcome.Outcome.{Outcome}
 use Rattle.visit_core.specs.declared.outcome.Outcome.TheVariants.{Done, LostLocked, LostMissing, GaveUp, LinkFault, Refused}
 use Rattle.visit_core.specs.OutcomeText.{outcome_spelling}
 use Rattle.visit_core.specs.Stages.{VisitState}
-use Rattle.visit_core.specs.Terms.{Terms, default_limits, most_requests}
+use Rattle.visit_core.specs.Terms.{VisitTerms, default_limits, most_requests}
 use Rattle.visit_command.specs.declared.visit_words.PageWords.{PageWords}
 
 -- the exit status of an outcome
@@ -34,8 +34,8 @@ tellings link pauses clock sink =
     record { link = link; pauses = pauses; clock = clock; sink = sink }
 
 -- the terms of the page, by the limits that ASP.NET has by default, and 1,000 polls
-abbrev pub terms_of : PageWords → Terms
-terms_of page = record { key = page.key; need = page.need; limits = default_limits }
+abbrev pub terms_of_page : PageWords → VisitTerms
+terms_of_page page = record { key = page.key; need = page.need; limits = default_limits }
 
 -- So many replies are enough for a visit of any page: it hears no more than it sends requests. One
 -- more is asked for, so that no visit comes to the end of the replies.
@@ -54,7 +54,7 @@ pub record HasVisited (page : PageWords) (before after : Outside) (status : ℕ)
   pub start : VisitState
   pub stop : VisitState
   pub end : VisitEnd
-  pub terms : start.terms ≡ terms_of page
+  pub terms : start.terms ≡ terms_of_page page
   pub new : IsNew start
   pub visit : IsVisit page.ending (scene start before.link before.pauses before.clock)
       (scene stop after.link after.pauses after.clock) end

@@ -1,7 +1,7 @@
 //! A word that spells bytes by hexadecimal digits, judged without memory and read.
 ghost use Rattle.std.specs.Prelude.{◌≡◌, ◌≤◌, IfOk, IfSome, is_some, length};
 ghost use Rattle.std.specs.List.{list_all};
-ghost use Rattle.visit_command.specs.Words.{is_digit, are_digits, byte_string};
+ghost use Rattle.visit_command.specs.VisitWords.{is_digit, are_digits, byte_string};
 
 use asp_base::{Bytes, NoMemory};
 use std::alloc::Global;
@@ -19,7 +19,7 @@ fn are_digits(digits: &[u8], most: usize) -> bool
 }
 
 /// Whether the word spells bytes, at most `most`. It takes no memory.
-#[tactic(auto, unfolding(crate::specs::Words::byte_string))]
+#[tactic(auto, unfolding(crate::specs::VisitWords::byte_string))]
 pub fn is_byte_string(word: &[u8], most: usize) -> bool
     ensures { result ≡ is_some (byte_string word.now most) }
 {
@@ -31,7 +31,7 @@ pub fn is_byte_string(word: &[u8], most: usize) -> bool
 
 /// The bytes that the word spells, at most `most`; `None` exactly where it spells none. The only
 /// error is want of memory.
-#[tactic(auto, unfolding(crate::specs::Words::byte_string))]
+#[tactic(auto, unfolding(crate::specs::VisitWords::byte_string))]
 pub fn read_byte_string(alloc: Global, word: &[u8], most: usize) -> Result<Option<Bytes>, NoMemory>
     ensures value { IfOk result (λ bytes. bytes ≡ byte_string word.now most) }
     ensures short { IfOk result (λ bytes. IfSome bytes (λ b. length b ≤ most)) }

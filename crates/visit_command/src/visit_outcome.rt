@@ -4,7 +4,7 @@ ghost use Rattle.asp_base.specs.Causes.{Rose};
 ghost use Rattle.asp_base.specs.WrittenLine.{WritesLine};
 ghost use Rattle.page_link.specs.Visits.{TellsReplies};
 ghost use Rattle.visit_core.specs.OutcomeText.{outcome_spelling};
-ghost use Rattle.visit_command.specs.Words.{visit_of};
+ghost use Rattle.visit_command.specs.VisitWords.{visit_of};
 ghost use Rattle.visit_command.specs.Top.{outcome_status, tellings, enough_replies, IsVisitOf, EndsWithOutcome};
 
 use crate::visit_words::{read_visit, visit_port};

@@ -2,7 +2,7 @@
 ghost use Rattle.std.specs.Prelude.{◌≡◌, ◌<◌, ◌≤◌, is_some, map, string_bytes, IfOk, IfSome, length};
 ghost use Rattle.asp_messages.specs.Ranges.{KeyFits, MinutesFit};
 ghost use Rattle.visit_core.specs.Terms.{EndingFits};
-ghost use Rattle.visit_command.specs.Words.{port_of, key_of, need_of, minutes_of, bare_ending, ending_of, visit_of, port_in, PageWordsFit};
+ghost use Rattle.visit_command.specs.VisitWords.{port_of, key_of, need_of, minutes_of, bare_ending, ending_of, visit_of, port_in, PageWordsFit};
 
 use crate::hex_word::{is_byte_string, read_byte_string};
 use asp_base::{Bytes, NoMemory, read_number};
@@ -86,7 +86,7 @@ fn bare_ending(word: &str) -> Option<Ending>
     None
 }
 
-#[tactic(auto, unfolding(crate::specs::Words::ending_of))]
+#[tactic(auto, unfolding(crate::specs::VisitWords::ending_of))]
 fn is_ending(words: &[String]) -> bool
     ensures { result ≡ is_some (ending_of (map string_bytes words.now)) }
 {
@@ -101,7 +101,7 @@ fn is_ending(words: &[String]) -> bool
     }
 }
 
-#[tactic(auto, unfolding(crate::specs::Words::ending_of))]
+#[tactic(auto, unfolding(crate::specs::VisitWords::ending_of))]
 fn read_ending(alloc: Global, words: &[String]) -> Result<Option<Ending>, NoMemory>
     ensures value { IfOk result (λ ending. ending ≡ ending_of (map string_bytes words.now)) }
     ensures fits { IfOk result (λ ending. IfSome ending EndingFits) }
@@ -126,7 +126,7 @@ fn read_ending(alloc: Global, words: &[String]) -> Result<Option<Ending>, NoMemo
 
 /// The port in the words of `visit PORT KEY NEED ENDING`; `None` exactly where the words are none
 /// of `visit`. They are judged without memory.
-#[tactic(auto, unfolding(crate::specs::Words::visit_of))]
+#[tactic(auto, unfolding(crate::specs::VisitWords::visit_of))]
 pub fn visit_port(words: &[String]) -> Option<u64>
     ensures { result ≡ port_in (visit_of (map string_bytes words.now)) }
 {
@@ -143,7 +143,7 @@ pub fn visit_port(words: &[String]) -> Option<u64>
 
 /// What the words of `visit` say; `None` exactly where they are none. The only error is want of
 /// memory.
-#[tactic(auto, unfolding(crate::specs::Words::visit_of))]
+#[tactic(auto, unfolding(crate::specs::VisitWords::visit_of))]
 pub fn read_visit(alloc: Global, words: &[String]) -> Result<Option<PageWords>, NoMemory>
     ensures value { IfOk result (λ page. page ≡ visit_of (map string_bytes words.now)) }
     ensures fits { IfOk result (λ page. IfSome page PageWordsFit) }

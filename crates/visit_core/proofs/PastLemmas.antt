@@ -7,26 +7,26 @@ use Rattle.asp_messages.specs.declared.request.Request.{Request}
 use Rattle.asp_messages.specs.declared.request.Ask.{Ask}
 use Rattle.asp_messages.specs.declared.request.Ask.TheVariants.{Release}
 use Rattle.asp_messages.specs.declared.reply.Reply.TheVariants.{Found, Done as done_reply, Locked, Missing}
-use Rattle.visit_core.specs.declared.terms.Need.{Need}
-use Rattle.visit_core.specs.declared.terms.Need.TheVariants.{Exclusive, ReadOnly, Off}
-use Rattle.visit_core.specs.declared.terms.Limits.{Limits}
+use Rattle.visit_core.specs.declared.visit_terms.Need.{Need}
+use Rattle.visit_core.specs.declared.visit_terms.Need.TheVariants.{Exclusive, ReadOnly, Off}
+use Rattle.visit_core.specs.declared.visit_terms.Limits.{Limits}
 use Rattle.visit_core.specs.declared.act.Heard.{Heard}
 use Rattle.visit_core.specs.declared.act.Heard.TheVariants.{Reply}
 use Rattle.visit_core.specs.declared.stage.Lock.{Lock}
 use Rattle.visit_core.specs.declared.stage.Stage.{Stage}
 use Rattle.visit_core.specs.declared.stage.Stage.TheVariants.{Asking, Forcing, Running, Ending, Over}
 use Rattle.visit_core.specs.Acts.{send, run, over}
-use Rattle.visit_core.specs.Terms.{Terms, HeardFits}
-use Rattle.visit_core.specs.Rule.{Event, send_ask, after_locked, heard, act_of, act_after, ask_for, EachFollows, locked_answers, has_ended, own_cookie}
-use Rattle.visit_core.specs.Stages.{VisitState, HasPast, Knows, stage_act}
+use Rattle.visit_core.specs.Terms.{VisitTerms, HeardFits}
+use Rattle.visit_core.specs.VisitRule.{Event, send_ask, after_locked, heard, act_of, act_after, ask_for, EachFollows, locked_answers, has_ended, own_cookie}
+use Rattle.visit_core.specs.Stages.{VisitState, HasPast, StageKnows, stage_act}
 use Rattle.visit_core.specs.Tables.{meets_lock, meets_lock_if, end_answered, hears, hears_answer, hears_release}
 
 -- one more event, behind the others
-HasPast-push : (visit : VisitState) (terms : Terms) (past : List Event) (event : Event)
+HasPast-push : (visit : VisitState) (terms : VisitTerms) (past : List Event) (event : Event)
     → visit.terms ≡ terms → EachFollows terms (event ∷ reverse past)
     → ((t : ℕ) → act_after terms (event ∷ reverse past) t
     ≡ stage_act visit.terms visit.ask visit.stage t)
-    → Knows visit.terms visit.ask visit.locked visit.stage (event ∷ reverse past)
+    → StageKnows visit.terms visit.ask visit.locked visit.stage (event ∷ reverse past)
     → HasPast visit (past ++ event ∷ [])
 HasPast-push visit terms past event is lawful acts knows =
     record {
@@ -47,24 +47,24 @@ locked-acts visit t lock u e = grind (arith, common_steps)
 locked-knows : (visit : VisitState) (t : ℕ) (lock : Lock) (past : List Event)
     → visit.ask ≡ ask_for visit.terms.need → locked_answers past ≡ visit.locked + 1
     → has_ended past ≡ false → own_cookie past ≡ None
-    → Knows (meets_lock visit t lock).terms (meets_lock visit t lock).ask
+    → StageKnows (meets_lock visit t lock).terms (meets_lock visit t lock).ask
     (meets_lock visit t lock).locked (meets_lock visit t lock).stage past
 locked-knows visit t lock past e n not_ended none =
     elim (nat_le visit.terms.limits.polls (visit.locked + 1)) as
     (λ b. let v : VisitState = meets_lock_if b (nat_lt visit.terms.limits.execution_secs lock.age)
-    visit t lock in Knows v.terms v.ask v.locked v.stage past) [
+    visit t lock in StageKnows v.terms v.ask v.locked v.stage past) [
       | true ↦ tt
       | false ↦
           elim (nat_lt visit.terms.limits.execution_secs lock.age) as
           (λ b. let v : VisitState = meets_lock_if false b visit t lock in
-          Knows v.terms v.ask v.locked v.stage past)
+          StageKnows v.terms v.ask v.locked v.stage past)
           [ true ↦ ((lock.cookie, refl), n, not_ended, none) | false ↦ (e, n, not_ended, none) ]
     ]
 
 -- the answer to an ask for the session
 asked-acts : (key : List ℕ) (need : Need) (limits : Limits) (locked from t : ℕ) (answer : Heard)
     (past : List Event) → has_ended past ≡ false → locked_answers past ≡ locked → (u : ℕ) →
-    (let terms : Terms = record { key = key; need = need; limits = limits } in
+    (let terms : VisitTerms = record { key = key; need = need; limits = limits } in
     let visit : VisitState = hears (record {
       terms = terms;
       ask = ask_for need;
@@ -92,7 +92,7 @@ asked-acts key Off limits locked from t answer past e n u = rw e refl
 asked-knows : (key : List ℕ) (need : Need) (limits : Limits) (locked from t : ℕ) (answer : Heard)
     (past : List Event) → has_ended past ≡ false → locked_answers past ≡ locked
     → own_cookie past ≡ None →
-    (let terms : Terms = record { key = key; need = need; limits = limits } in
+    (let terms : VisitTerms = record { key = key; need = need; limits = limits } in
     let visit : VisitState = hears (record {
       terms = terms;
       ask = ask_for need;
@@ -100,7 +100,7 @@ asked-knows : (key : List ℕ) (need : Need) (limits : Limits) (locked from t : 
           locked;
       stage = Asking from;
     }) t (Asking from) answer in
-    Knows visit.terms visit.ask visit.locked visit.stage
+    StageKnows visit.terms visit.ask visit.locked visit.stage
     (heard t (record { key = key; ask = ask_for need }) answer ∷ past))
 asked-knows key Exclusive limits locked from t (Reply (Found body minutes None first)) past e n
     none = tt
@@ -120,12 +120,12 @@ asked-knows key Off limits locked from t (Reply done_reply) past e n none = tt
 asked-knows key Off limits locked from t (Reply Missing) past e n none = tt
 asked-knows key Off limits locked from t answer past e n none = tt
 
-asking-now : (terms : Terms) (ask : Ask) (t : ℕ)
+asking-now : (terms : VisitTerms) (ask : Ask) (t : ℕ)
     → stage_act terms ask (Asking 0) t ≡ send_ask terms ask
 asking-now terms ask t = grind (arith, common_steps)
 
 -- the answer to a forced release
-forced-acts : (terms : Terms) (locked cookie t : ℕ) (answer : Heard) (past : List Event)
+forced-acts : (terms : VisitTerms) (locked cookie t : ℕ) (answer : Heard) (past : List Event)
     → has_ended past ≡ false → (u : ℕ) →
     (let ask : Ask = Release cookie in
     let visit : VisitState = hears_release (record {
@@ -143,7 +143,7 @@ forced-acts terms locked cookie t (Reply (Locked other age since)) past e u =
     rw e (sym (asking-now terms _ u))
 forced-acts terms locked cookie t answer past e u = rw e refl
 
-forced-knows : (terms : Terms) (locked cookie t : ℕ) (answer : Heard) (past : List Event)
+forced-knows : (terms : VisitTerms) (locked cookie t : ℕ) (answer : Heard) (past : List Event)
     → locked_answers past ≡ locked → has_ended past ≡ false → own_cookie past ≡ None →
     (let ask : Ask = Release cookie in
     let visit : VisitState = hears_release (record {
@@ -153,7 +153,7 @@ forced-knows : (terms : Terms) (locked cookie t : ℕ) (answer : Heard) (past : 
           locked;
       stage = Forcing;
     }) answer in
-    Knows visit.terms visit.ask visit.locked visit.stage
+    StageKnows visit.terms visit.ask visit.locked visit.stage
     (heard t (record { key = terms.key; ask = ask }) answer ∷ past))
 forced-knows terms locked cookie t (Reply done_reply) past n e none = (refl, n, e, none)
 forced-knows terms locked cookie t (Reply Missing) past n e none = (refl, n, e, none)
@@ -166,7 +166,7 @@ forced-knows terms locked cookie t (Reply (Locked other age since)) past n e non
 forced-knows terms locked cookie t answer past n e none = tt
 
 -- the answer to the request of the page's end
-end-acts : (terms : Terms) (ask : Ask) (request : Request) (t : ℕ) (answer : Heard)
+end-acts : (terms : VisitTerms) (ask : Ask) (request : Request) (t : ℕ) (answer : Heard)
     (past : List Event) → has_ended past ≡ true → (u : ℕ)
     → act_after terms (heard t request answer ∷ past) u
     ≡ stage_act terms ask (end_answered answer) u
@@ -175,8 +175,8 @@ end-acts terms ask request t (Reply Missing) past e u = rw e refl
 end-acts terms ask request t (Reply (Locked other age since)) past e u = rw e refl
 end-acts terms ask request t answer past e u = rw e refl
 
-end-knows : (terms : Terms) (ask : Ask) (locked : ℕ) (answer : Heard) (past : List Event)
-    → Knows terms ask locked (end_answered answer) past
+end-knows : (terms : VisitTerms) (ask : Ask) (locked : ℕ) (answer : Heard) (past : List Event)
+    → StageKnows terms ask locked (end_answered answer) past
 end-knows terms ask locked (Reply done_reply) past = tt
 end-knows terms ask locked (Reply Missing) past = tt
 end-knows terms ask locked (Reply (Locked other age since)) past = tt
@@ -200,7 +200,7 @@ forced-terms visit (Reply (Locked cookie age since)) = refl
 forced-terms visit answer = refl
 
 -- what a visit sends that asks for the session
-asking-sends : (terms : Terms) (ask : Ask) (from t : ℕ) (request : Request)
+asking-sends : (terms : VisitTerms) (ask : Ask) (from t : ℕ) (request : Request)
     → stage_act terms ask (Asking from) t ≡ send request
     → request ≡ record { key = terms.key; ask = ask }
 asking-sends terms ask from t request e = grind (arith, common_steps)
@@ -209,13 +209,13 @@ send-inj : (a b : Request) → send a ≡ send b → b ≡ a
 send-inj a b e = cc
 
 -- an answer to the request that the visit sends
-pub HasPast-heard : (terms : Terms) (ask : Ask) (locked : ℕ) (stage : Stage) (t : ℕ)
+pub HasPast-heard : (terms : VisitTerms) (ask : Ask) (locked : ℕ) (stage : Stage) (t : ℕ)
     (answer : Heard) (past : List Event) (request : Request) → HeardFits answer →
     (let visit : VisitState = record { terms = terms; ask = ask; locked = locked; stage = stage } in
     HasPast visit past → act_of terms past t ≡ send request
     → HasPast (hears visit t stage answer) (past ++ heard t request answer ∷ []))
 HasPast-heard terms ask locked (Asking from) t answer past request fits h sent =
-    let k : Knows terms ask locked (Asking from) (reverse past) = h.knows in
+    let k : StageKnows terms ask locked (Asking from) (reverse past) = h.knows in
     let is_request : request ≡ record { key = terms.key; ask = ask } =
     asking-sends terms ask from t request (sym (h.acts t) ∙ sent) in
     let same : request ≡ record { key = terms.key; ask = ask_for terms.need } =
@@ -226,7 +226,7 @@ HasPast-heard terms ask locked (Asking from) t answer past request fits h sent =
     (asked-knows terms.key terms.need terms.limits locked from t answer (reverse past) k.2 k.1
     k.3))
 HasPast-heard terms ask locked Forcing t answer past request fits h sent =
-    let k : Knows terms ask locked Forcing (reverse past) = h.knows in
+    let k : StageKnows terms ask locked Forcing (reverse past) = h.knows in
     let is_request : request ≡ record { key = terms.key; ask = ask } =
     send-inj _ _ (sym (h.acts t) ∙ sent) in
     let same : request ≡ record { key = terms.key; ask = Release k.0.0 } = rw k.0.1 at is_request in

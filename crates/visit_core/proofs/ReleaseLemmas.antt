@@ -7,15 +7,15 @@ use Rattle.asp_messages.specs.declared.request.Request.{Request}
 use Rattle.asp_messages.specs.declared.request.Ask.{Ask}
 use Rattle.asp_messages.specs.declared.request.Ask.TheVariants.{Read, Acquire, Release, Write, Remove, Reset}
 use Rattle.asp_messages.specs.declared.reply.Reply.TheVariants.{Found, Done as done_reply, Locked, Missing}
-use Rattle.visit_core.specs.declared.terms.Limits.{Limits}
-use Rattle.visit_core.specs.declared.terms.Need.{Need}
-use Rattle.visit_core.specs.declared.terms.Need.TheVariants.{Exclusive, ReadOnly, Off}
+use Rattle.visit_core.specs.declared.visit_terms.Limits.{Limits}
+use Rattle.visit_core.specs.declared.visit_terms.Need.{Need}
+use Rattle.visit_core.specs.declared.visit_terms.Need.TheVariants.{Exclusive, ReadOnly, Off}
 use Rattle.visit_core.specs.declared.act.Heard.{Heard}
 use Rattle.visit_core.specs.declared.act.Heard.TheVariants.{Reply, Strange}
 use Rattle.visit_core.specs.declared.outcome.Outcome.TheVariants.{GaveUp}
 use Rattle.visit_core.specs.Acts.{Action, send, wait_until, run, over}
-use Rattle.visit_core.specs.Terms.{Terms}
-use Rattle.visit_core.specs.Rule.{Event, heard, ended, lost, send_ask, act_of, act_after, after_answer, after_locked, after_loss, refused, ask_for, EachFollows, IsLawful, is_locked_ask, locked_answers, has_ended, MeetsOldLock}
+use Rattle.visit_core.specs.Terms.{VisitTerms}
+use Rattle.visit_core.specs.VisitRule.{Event, heard, ended, lost, send_ask, act_of, act_after, after_answer, after_locked, after_loss, refused, ask_for, EachFollows, IsLawful, is_locked_ask, locked_answers, has_ended, MeetsOldLock}
 
 -- ---- counts in a past, in either order
 
@@ -88,19 +88,19 @@ refused-no_send (Strange status) request = λ e. cc
 send-inj : (a b : Request) → send a ≡ send b → b ≡ a
 send-inj a b e = cc
 
-asks-no_release : (terms : Terms) (cookie : ℕ)
+asks-no_release : (terms : VisitTerms) (cookie : ℕ)
     → send_ask terms (ask_for terms.need) ≢ send_ask terms (Release cookie)
 asks-no_release terms cookie e = need-no_release terms.need cookie
     (ap (λ (r : Request). r.ask) (sym (send-inj _ _ e)))
 
 -- a request before the page's end asks for the session or releases a lock
-abbrev Asked : Terms → Request → Type 0
+abbrev Asked : VisitTerms → Request → Type 0
 Asked terms request =
     (request ≡ record { key = terms.key; ask = ask_for terms.need })
     ⊎ ((cookie : ℕ) × (request.ask ≡ Release cookie))
 
 -- what follows a lock that was met, by the three tests
-abbrev branch : Terms → Bool → Bool → Bool → ℕ → ℕ → ℕ → Action
+abbrev branch : VisitTerms → Bool → Bool → Bool → ℕ → ℕ → ℕ → Action
 branch terms used_up old early cookie age moment =
     if used_up
     then over (GaveUp cookie age)
@@ -108,7 +108,8 @@ branch terms used_up old early cookie age moment =
     then send_ask terms (Release cookie)
     else (if early then wait_until moment else send_ask terms (ask_for terms.need)))
 
-branch-asks : (terms : Terms) (used_up old early : Bool) (cookie age moment : ℕ) (request : Request)
+branch-asks : (terms : VisitTerms) (used_up old early : Bool) (cookie age moment : ℕ)
+    (request : Request)
     → branch terms used_up old early cookie age moment ≡ send request → Asked terms request
 branch-asks terms true old early cookie age moment request e = absurd cc
 branch-asks terms false true early cookie age moment request e =
@@ -116,7 +117,7 @@ branch-asks terms false true early cookie age moment request e =
 branch-asks terms false false true cookie age moment request e = absurd cc
 branch-asks terms false false false cookie age moment request e = inl (send-inj _ _ e)
 
-branch-release : (terms : Terms) (used_up old early : Bool) (found age moment cookie : ℕ)
+branch-release : (terms : VisitTerms) (used_up old early : Bool) (found age moment cookie : ℕ)
     → branch terms used_up old early found age moment ≡ send_ask terms (Release cookie)
     → (used_up ≡ false) × (old ≡ true) × (found ≡ cookie)
 branch-release terms true old early found age moment cookie e = absurd cc
@@ -127,7 +128,8 @@ branch-release terms false false true found age moment cookie e = absurd cc
 branch-release terms false false false found age moment cookie e =
     absurd (need-no_release terms.need cookie (sym (ap (λ (r : Request). r.ask) (send-inj _ _ e))))
 
-answer-asks : (terms : Terms) (count u : ℕ) (ask : Ask) (answer : Heard) (t : ℕ) (request : Request)
+answer-asks : (terms : VisitTerms) (count u : ℕ) (ask : Ask) (answer : Heard) (t : ℕ)
+    (request : Request)
     → after_answer terms count u ask answer t ≡ send request → Asked terms request
 answer-asks terms count u Acquire (Reply (Found body minutes None first)) t request e = absurd cc
 answer-asks terms count u Acquire (Reply (Found body minutes (Some cookie) first)) t request e =
@@ -151,7 +153,8 @@ answer-asks terms count u (Write body minutes fresh cookie) answer t request e =
 answer-asks terms count u (Remove cookie) answer t request e =
     absurd (refused-no_send answer request e)
 
-act-asks : (terms : Terms) (past : List Event) (t : ℕ) (request : Request) → has_ended past ≡ false
+act-asks : (terms : VisitTerms) (past : List Event) (t : ℕ) (request : Request) → has_ended past
+    ≡ false
     → act_after terms past t ≡ send request → Asked terms request
 act-asks terms [] t request not_ended e = inl (send-inj _ _ e)
 act-asks terms (heard u sent answer ∷ past) t request not_ended e =
@@ -161,7 +164,7 @@ act-asks terms (lost ∷ past) t request not_ended e =
     absurd (loss-no_send (act_after terms past t) request e)
 
 -- the last event, where a release follows; the past has its latest event first
-pub record Met (terms : Terms) (past : List Event) (cookie : ℕ) : Type 0 where
+pub record Met (terms : VisitTerms) (past : List Event) (cookie : ℕ) : Type 0 where
   pub content : terms.need ≢ Off
   pub earlier : List Event
   pub moment : ℕ
@@ -173,7 +176,7 @@ pub record Met (terms : Terms) (past : List Event) (cookie : ℕ) : Type 0 where
   pub polls_left : locked_answers past < terms.limits.polls
 
 -- an own ask that met a lock asked for the session
-own-ask : (terms : Terms) (request : Request) → Asked terms request → (age cookie : ℕ)
+own-ask : (terms : VisitTerms) (request : Request) → Asked terms request → (age cookie : ℕ)
     → (since : Option ℕ) → is_locked_ask request.ask (Reply (Locked cookie age since)) ≡ true
     → (request ≡ record { key = terms.key; ask = ask_for terms.need }) × (terms.need ≢ Off)
 own-ask terms request (inl is) age cookie since locked = (
@@ -196,7 +199,7 @@ le-false a b h = grind (arith, nat_tests)
 lt-true : (a b : ℕ) → a < b → nat_lt a b ≡ true
 lt-true a b h = grind (arith, nat_tests)
 
-locked-met : (terms : Terms) (past : List Event) (u t : ℕ) (request : Request)
+locked-met : (terms : VisitTerms) (past : List Event) (u t : ℕ) (request : Request)
     (found age cookie : ℕ) (since : Option ℕ) → Asked terms request
     → is_locked_ask request.ask (Reply (Locked found age since)) ≡ true
     → after_locked terms (locked_answers past + 1) u found age t ≡ send_ask terms (Release cookie)
@@ -221,7 +224,7 @@ locked-met terms past u t request found age cookie since asked locked e =
           rw locked (not_le _ _ tests.0);
     }
 
-answer-met : (terms : Terms) (past : List Event) (u t : ℕ) (request : Request) (ask : Ask)
+answer-met : (terms : VisitTerms) (past : List Event) (u t : ℕ) (request : Request) (ask : Ask)
     (answer : Heard) (cookie : ℕ) → request.ask ≡ ask → Asked terms request
     → after_answer terms (locked_answers (heard u request answer ∷ past)) u ask answer t
     ≡ send_ask terms (Release cookie) → Met terms (heard u request answer ∷ past) cookie
@@ -253,7 +256,7 @@ answer-met terms past u t request (Remove own) answer cookie is asked e =
     absurd (refused-no_send answer _ e)
 
 -- a release is sent after such an event
-met-of : (terms : Terms) (past : List Event) (t cookie : ℕ) → EachFollows terms past
+met-of : (terms : VisitTerms) (past : List Event) (t cookie : ℕ) → EachFollows terms past
     → has_ended past ≡ false → act_after terms past t ≡ send_ask terms (Release cookie)
     → Met terms past cookie
 met-of terms [] t cookie follows not_ended e = absurd (asks-no_release terms cookie e)
@@ -269,7 +272,7 @@ met-acts : (key : List ℕ) (need : Need) (limits : Limits) (earlier : List Even
     (moment age t cookie : ℕ) (since : Option ℕ) → need ≢ Off → has_ended earlier ≡ false
     → limits.execution_secs < age
     →
-    (let terms : Terms = record { key = key; need = need; limits = limits } in
+    (let terms : VisitTerms = record { key = key; need = need; limits = limits } in
     let past : List Event = heard moment (record { key = key; ask = ask_for need })
     (Reply (Locked cookie age since)) ∷ earlier in
     locked_answers past < limits.polls → act_after terms past t ≡ send_ask terms (Release cookie))
@@ -280,13 +283,13 @@ met-acts key ReadOnly limits earlier moment age t cookie since content not_ended
 met-acts key Off limits earlier moment age t cookie since content not_ended old left =
     absurd (content refl)
 
-release-of : (terms : Terms) (past : List Event) (t cookie : ℕ) → has_ended past ≡ false
+release-of : (terms : VisitTerms) (past : List Event) (t cookie : ℕ) → has_ended past ≡ false
     → Met terms past cookie → act_after terms past t ≡ send_ask terms (Release cookie)
 release-of terms past t cookie not_ended met =
     rw met.last (met-acts terms.key terms.need terms.limits met.earlier met.moment met.age t cookie
     met.since met.content (rw met.last at not_ended) met.old (rw met.last at met.polls_left))
 
-pub releases : (terms : Terms) (past : List Event) (t cookie : ℕ) → IsLawful terms past
+pub releases : (terms : VisitTerms) (past : List Event) (t cookie : ℕ) → IsLawful terms past
     → has_ended past ≡ false → act_of terms past t ≡ send_ask terms (Release cookie)
     → MeetsOldLock terms past cookie
 releases terms past t cookie lawful not_ended e =
@@ -305,7 +308,7 @@ releases terms past t cookie lawful not_ended e =
           rw (locked_answers-reverse past) at met.polls_left;
     }
 
-pub released : (terms : Terms) (past : List Event) (t cookie : ℕ) → has_ended past ≡ false
+pub released : (terms : VisitTerms) (past : List Event) (t cookie : ℕ) → has_ended past ≡ false
     → MeetsOldLock terms past cookie → act_of terms past t ≡ send_ask terms (Release cookie)
 released terms past t cookie not_ended met =
     release-of terms (reverse past) t cookie (not_ended-reverse past not_ended)

@@ -1,6 +1,6 @@
 pub mod Acts
 pub mod OutcomeText
-pub mod Rule
+pub mod VisitRule
 pub mod Stages
 pub mod Tables
 pub mod Terms

@@ -1,27 +1,28 @@
--- How a visit stands for its past. Above this crate only the names `HasPast`, `Sends`, `Runs` and
+-- How a visit stands for its past. Above this crate only the names `HasPast`, `VisitSends`, `Runs`
+-- and
 -- `steps_left` are of use: what they are good for is said by what the calls ensure.
 use Rattle.std.specs.Prelude.{◌≡◌, ℕ, ◌+◌, ◌-◌, ◌*◌, ◌<◌, ◌≤◌, List, reverse, None, IfSome, true, false, nat_lt, if◌then◌else◌, ⊤}
 use Rattle.asp_messages.specs.declared.request.Request.{Request}
 use Rattle.asp_messages.specs.declared.request.Ask.{Ask}
 use Rattle.asp_messages.specs.declared.request.Ask.TheVariants.{Release}
 use Rattle.asp_messages.specs.Ranges.{BodyFits, CookieFits, RequestFits}
-use Rattle.visit_core.specs.declared.terms.Limits.{Limits}
+use Rattle.visit_core.specs.declared.visit_terms.Limits.{Limits}
 use Rattle.visit_core.specs.declared.stage.Stage.{Stage}
 use Rattle.visit_core.specs.declared.stage.Stage.TheVariants.{Asking, Forcing, Running, Ending, Over}
 use Rattle.visit_core.specs.Acts.{Action, wait_until, run, over}
-use Rattle.visit_core.specs.Terms.{Terms, LimitsFit}
-use Rattle.visit_core.specs.Rule.{Event, send_ask, ask_for, act_of, locked_answers, has_ended, own_cookie, IsLawful}
+use Rattle.visit_core.specs.Terms.{VisitTerms, LimitsFit}
+use Rattle.visit_core.specs.VisitRule.{Event, send_ask, ask_for, act_of, locked_answers, has_ended, own_cookie, IsLawful}
 
 -- A visit: its terms, what it asks where its stage asks, how many asks for the session met a lock,
 -- and its stage.
 pub record VisitState : Type 0 where
-  pub terms : Terms
+  pub terms : VisitTerms
   pub ask : Ask
   pub locked : ℕ
   pub stage : Stage
 
 -- what a stage does
-abbrev pub stage_act : Terms → Ask → Stage → ℕ → Action
+abbrev pub stage_act : VisitTerms → Ask → Stage → ℕ → Action
 stage_act terms ask (Asking from) t = if nat_lt t from then wait_until from else send_ask terms ask
 stage_act terms ask Forcing t = send_ask terms ask
 stage_act terms ask (Running content first cookie) t = run content first
@@ -47,22 +48,22 @@ pub record IsSound (request : Request) (limits : Limits) (locked : ℕ) (stage :
 -- ---- how a visit stands for its past
 
 -- what a stage knows of the past, which has its latest event first
-abbrev pub Knows : Terms → Ask → ℕ → Stage → List Event → Type 0
-Knows terms ask locked (Asking from) past =
+abbrev pub StageKnows : VisitTerms → Ask → ℕ → Stage → List Event → Type 0
+StageKnows terms ask locked (Asking from) past =
     (ask ≡ ask_for terms.need) × (locked_answers past ≡ locked) × (has_ended past ≡ false)
     × (own_cookie past ≡ None)
-Knows terms ask locked Forcing past =
+StageKnows terms ask locked Forcing past =
     ((cookie : ℕ) × (ask ≡ Release cookie)) × (locked_answers past ≡ locked)
     × (has_ended past ≡ false) × (own_cookie past ≡ None)
-Knows terms ask locked (Running content first cookie) past = own_cookie past ≡ cookie
-Knows terms ask locked Ending past = has_ended past ≡ true
-Knows terms ask locked (Over outcome) past = ⊤
+StageKnows terms ask locked (Running content first cookie) past = own_cookie past ≡ cookie
+StageKnows terms ask locked Ending past = has_ended past ≡ true
+StageKnows terms ask locked (Over outcome) past = ⊤
 
 -- The calls of this past lead to this visit: the past is lawful, and the visit acts by its rule.
 pub record HasPast (visit : VisitState) (past : List Event) : Type 0 where
   pub lawful : IsLawful visit.terms past
   pub acts : (t : ℕ) → act_of visit.terms past t ≡ stage_act visit.terms visit.ask visit.stage t
-  pub knows : Knows visit.terms visit.ask visit.locked visit.stage (reverse past)
+  pub knows : StageKnows visit.terms visit.ask visit.locked visit.stage (reverse past)
 
 -- ---- what may be told to a visit
 
@@ -79,8 +80,8 @@ StageSends Ending t = ⊤
 StageSends (Over outcome) t = ⊥
 
 -- an answer may be heard at this moment
-abbrev pub Sends : VisitState → ℕ → Type 0
-Sends visit t = StageSends visit.stage t
+abbrev pub VisitSends : VisitState → ℕ → Type 0
+VisitSends visit t = StageSends visit.stage t
 
 -- the page is to run in this stage
 abbrev pub StageRuns : Stage → Type 0

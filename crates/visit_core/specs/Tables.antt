@@ -3,14 +3,14 @@ use Rattle.std.specs.Prelude.{ℕ, ◌+◌, ◌<◌, ◌≤◌, ◌^◌, List, O
 use Rattle.asp_messages.specs.declared.request.Ask.{Ask}
 use Rattle.asp_messages.specs.declared.request.Ask.TheVariants.{Read, Acquire, Release, Reset}
 use Rattle.asp_messages.specs.declared.reply.Reply.TheVariants.{Found, Done as done_reply, Locked, Missing}
-use Rattle.asp_messages.specs.ReplyText.{status_number}
+use Rattle.asp_messages.specs.ReplyText.{http_status}
 use Rattle.visit_core.specs.declared.act.Heard.{Heard}
 use Rattle.visit_core.specs.declared.act.Heard.TheVariants.{Reply, Strange}
 use Rattle.visit_core.specs.declared.outcome.Outcome.TheVariants.{Done, LostLocked, LostMissing, GaveUp, Refused}
 use Rattle.visit_core.specs.declared.stage.Lock.{Lock}
 use Rattle.visit_core.specs.declared.stage.Stage.{Stage}
 use Rattle.visit_core.specs.declared.stage.Stage.TheVariants.{Asking, Forcing, Running, Ending, Over}
-use Rattle.visit_core.specs.Rule.{ask_for}
+use Rattle.visit_core.specs.VisitRule.{ask_for}
 use Rattle.visit_core.specs.Stages.{VisitState}
 
 -- the session is asked for from this moment on
@@ -19,7 +19,7 @@ asks_from visit from = record visit { ask = ask_for visit.terms.need; stage = As
 
 -- an answer that does not belong to its request ends the visit
 abbrev pub refused : Heard → Stage
-refused (Reply reply) = Over (Refused (status_number reply))
+refused (Reply reply) = Over (Refused (http_status reply))
 refused (Strange status) = Over (Refused status)
 
 -- a lock's cookie and age are in their ranges

@@ -1,8 +1,8 @@
 -- What a visit is about, and the ranges of its lengths and numbers.
 use Rattle.std.specs.Prelude.{ℕ, ◌+◌, ◌*◌, ◌≤◌, ◌<◌, List, ⊤}
 use Rattle.asp_messages.specs.Ranges.{BodyFits, MinutesFit, ReplyFits}
-use Rattle.visit_core.specs.declared.terms.Need.{Need}
-use Rattle.visit_core.specs.declared.terms.Limits.{Limits}
+use Rattle.visit_core.specs.declared.visit_terms.Need.{Need}
+use Rattle.visit_core.specs.declared.visit_terms.Limits.{Limits}
 use Rattle.visit_core.specs.declared.act.Ending.{Ending}
 use Rattle.visit_core.specs.declared.act.Ending.TheVariants.{Save, Keep, Abandon}
 use Rattle.visit_core.specs.declared.act.Heard.{Heard}
@@ -10,7 +10,7 @@ use Rattle.visit_core.specs.declared.act.Heard.TheVariants.{Reply, Strange}
 
 -- The terms of a visit: the session's key, what the page needs of the session, and how long it
 -- asks.
-pub record Terms : Type 0 where
+pub record VisitTerms : Type 0 where
   pub key : List ℕ
   pub need : Need
   pub limits : Limits

@@ -1,6 +1,6 @@
 //! What a visit hears and does.
 ghost use Rattle.std.specs.Prelude.{◌≡◌};
-ghost use Rattle.visit_core.specs.Rule.{ending_ask};
+ghost use Rattle.visit_core.specs.VisitRule.{ending_ask};
 
 use crate::{Need, Outcome};
 use asp_base::Bytes;
@@ -64,7 +64,7 @@ pub enum Act<'a> {
     Run {
         /// The session's content; `None` where the session has no item.
         content: Option<&'a Bytes>,
-        /// Whether the item was uninitialised until now.
+        /// Whether the item was uninitialized until now.
         first: bool,
     },
     /// The visit is over.

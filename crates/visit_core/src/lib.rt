@@ -6,11 +6,11 @@ mod act;
 mod laws;
 mod outcome;
 mod stage;
-mod terms;
 mod visit;
+mod visit_terms;
 
 pub use act::{Act, Ending, Heard};
 pub use laws::releases_only_an_old_lock;
 pub use outcome::{Outcome, OutcomeText, outcome_text};
-pub use terms::{Limits, MOST_EXECUTION_SECS, MOST_POLL_MS, MOST_POLLS, Need, limits_fit};
 pub use visit::Visit;
+pub use visit_terms::{Limits, MOST_EXECUTION_SECS, MOST_POLL_MS, MOST_POLLS, Need, limits_fit};

@@ -2,10 +2,10 @@
 ghost use Rattle.std.specs.Prelude.{◌≡◌, ◌≤◌, ◌<◌, ◌^◌, ℕ, ◌++◌, ◌∷◌, [], List};
 ghost use Rattle.asp_messages.specs.Ranges.{KeyFits};
 ghost use Rattle.asp_messages.specs.declared.request.Request.{Request};
-ghost use Rattle.visit_core.specs.Terms.{Terms, LimitsFit, EndingFits, HeardFits, most_requests};
+ghost use Rattle.visit_core.specs.Terms.{VisitTerms, LimitsFit, EndingFits, HeardFits, most_requests};
 ghost use Rattle.visit_core.specs.Acts.{action_of, send, wait_until, ActFits, IsSend, IsToRun};
-ghost use Rattle.visit_core.specs.Rule.{Event, heard, ended, lost, act_of};
-ghost use Rattle.visit_core.specs.Stages.{HasPast, IsAsking, Sends, Runs, steps_left, StageFits};
+ghost use Rattle.visit_core.specs.VisitRule.{Event, heard, ended, lost, act_of};
+ghost use Rattle.visit_core.specs.Stages.{HasPast, IsAsking, VisitSends, Runs, steps_left, StageFits};
 ghost use Rattle.visit_core.specs.Tables.{LockFits, lock_met, answered, meets_lock, hears_answer, hears_release, hears};
 
 use crate::stage::{Lock, Stage};
@@ -76,7 +76,7 @@ impl Visit {
         ensures act { (past : List Event) → HasPast self.now past
             → action_of result ≡ act_of self.now.terms past t }
         ensures in_range { ActFits (action_of result) }
-        ensures sends { IsSend (action_of result) → Sends self.now t }
+        ensures sends { IsSend (action_of result) → VisitSends self.now t }
         ensures runs { IsToRun (action_of result) → Runs self.now }
         ensures waits { (u : ℕ) → action_of result ≡ wait_until u
             → steps_left self.now u < steps_left self.now t }
@@ -151,7 +151,7 @@ impl Visit {
     /// An answer, by the stage that sent its request.
     fn hear(&mut self, t: u64, answer: Heard)
         requires moment { t ≤ 2 ^ 62 }
-        requires sends { Sends self.old t }
+        requires sends { VisitSends self.old t }
         requires fits { HeardFits answer }
         ensures hears { self.new ≡ hears self.old t self.old.stage answer }
         ensures sound { StageFits self.old.locked self.old.terms.limits.polls self.old.stage }
@@ -168,7 +168,7 @@ impl Visit {
     /// answer that does not belong to its request ends the visit with `Outcome::Refused`.
     pub fn heard(&mut self, t: u64, answer: Heard)
         requires moment { t ≤ 2 ^ 62 }
-        requires sends { Sends self.old t }
+        requires sends { VisitSends self.old t }
         requires fits { HeardFits answer }
         ensures terms { self.new.terms ≡ self.old.terms }
         ensures past { (past : List Event) (request : Request) → HasPast self.old past

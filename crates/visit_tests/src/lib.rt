@@ -3,10 +3,10 @@
 #![tactic(auto)]
 
 #[cfg(test)]
-mod commands;
-#[cfg(test)]
 mod links;
 #[cfg(test)]
 mod pages;
 #[cfg(test)]
 mod texts;
+#[cfg(test)]
+mod visit_commands;

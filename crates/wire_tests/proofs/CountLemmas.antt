@@ -9,7 +9,7 @@ use Rattle.asp_messages.specs.Fields.{request_fields}
 use Rattle.asp_messages.specs.RequestSpelling.{message_of}
 use Rattle.asp_messages.specs.RequestText.{content_of}
 use Rattle.message_framing.specs.Framed.{TakesFramed}
-use Rattle.message_framing.specs.Held.{Reading}
+use Rattle.message_framing.specs.ReaderState.{CountedReader}
 use Rattle.request_reader.specs.Requests.{MeansRequest, filled, filled_ask}
 use Rattle.request_reader.specs.RequestLaws.{message-filled}
 use Rattle.wire_tests.specs.Counts.{content, LooksTwice}
@@ -27,7 +27,7 @@ filled-content (Fit request) body = ask-content request.ask body
 filled-content Unfit body = omega arith
 
 -- the content of a message is no longer than the body behind its head
-pub looks-twice : (old new : Reading) (ticks : ℕ) (m : Message)
+pub looks-twice : (old new : CountedReader) (ticks : ℕ) (m : Message)
     → TakesFramed MeansRequest old new ticks m → LooksTwice old new ticks (length (content m))
 looks-twice old new ticks m took =
     let said = took.means in

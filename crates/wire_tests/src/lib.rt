@@ -3,9 +3,9 @@
 #![tactic(auto)]
 
 #[cfg(test)]
-mod counts;
-#[cfg(test)]
 mod largest;
+#[cfg(test)]
+mod look_counts;
 #[cfg(test)]
 mod replies;
 #[cfg(test)]

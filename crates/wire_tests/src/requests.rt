@@ -1,6 +1,6 @@
 //! The requests of a text, read in pieces.
 ghost use Rattle.std.specs.Prelude.{IfOk, IsTrue, OnOk};
-ghost use Rattle.message_framing.specs.Held.{Held, Reading};
+ghost use Rattle.message_framing.specs.ReaderState.{ReaderState, CountedReader};
 
 use asp_base::{MOST_PIECE, NoMemory};
 use asp_messages::{Message, spell_ask};

@@ -7,7 +7,7 @@ ghost use Rattle.session_machine.specs.Liveness.{ItemFits};
 ghost use Rattle.session_machine.specs.Machine.{Circumstances};
 ghost use Rattle.session_machine.specs.Verdicts.{changed};
 ghost use Rattle.journal_text.specs.JudgingChecker.{item_among};
-ghost use Rattle.journal_text.specs.JudgingDeeds.{IsBarred, IsDone, IsLeft, ItemsFit, Leaves, ReplacesItem};
+ghost use Rattle.journal_text.specs.JudgingDeeds.{IsBarred, IsDone, IsLeft, ItemsFit, LeavesOf, ReplacesItem};
 
 use super::Why;
 use super::replies::{is_refusal, wrong_reply};
@@ -73,7 +73,7 @@ fn ask_there(
     requires request { RequestFits request }
     requires drawn { DrawFits request.ask drawn }
     requires item { ItemFits item.old }
-    ensures left { IfOk result (Leaves profile item.old item.new request
+    ensures left { IfOk result (LeavesOf profile item.old item.new request
         (record { moment = t; drawn = drawn; rose = rose }) reply) }
     ensures fits { ItemFits item.new }
     ensures err { OnErr result (item.new ≡ item.old) }

@@ -6,7 +6,7 @@ ghost use Rattle.journal_text.specs.JudgingChecker.{HasTaken};
 ghost use Rattle.journal_text.specs.JudgingEntries.{Judges};
 
 use super::Judgement;
-use super::standing::Standing;
+use super::history_state::HistoryState;
 use asp_base::NoMemory;
 use session_machine::{Entry, Profile};
 use std::alloc::Global;
@@ -20,7 +20,7 @@ pub struct Checker {
     first_place: u64,
     taken: u64,
     verdict: Judgement,
-    standing: Standing,
+    standing: HistoryState,
 }
 
 impl Model for Checker {
@@ -55,7 +55,7 @@ impl Checker {
             first_place,
             taken: 0,
             verdict: Judgement::Legal { entries: 0 },
-            standing: Standing::new(alloc, profile),
+            standing: HistoryState::new(alloc, profile),
         }
     }
 

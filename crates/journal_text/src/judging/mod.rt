@@ -2,10 +2,10 @@
 
 mod asking;
 mod checker;
+mod history_state;
 mod judgement;
 mod judgement_line;
 mod replies;
-mod standing;
 
 pub use checker::Checker;
 pub use judgement::{Judgement, Why, illegal_stays, legal_is_judged_legal, one_judgement};

@@ -2,12 +2,12 @@
 ghost use Rattle.std.specs.Prelude.{◌≡◌, ◌⊎◌, ◌+◌, ◌-◌, ◌<◌, ◌≤◌, ◌^◌, ◌++◌, ◌↔◌, ℕ, List, [], true, false, length, take, drop, Option, Some, None, IsTrue, IsFalse, OnOk, OnErr, IfSome, IfNone, IsSome, MatchOption};
 ghost use Rattle.asp_base.specs.Limits.{most_piece};
 ghost use Rattle.plain_words.specs.Words.{HasNo, SplitsAt};
-ghost use Rattle.journal_text.specs.WritingText.{PlaceFits, EntryFits, head_words, entry_words, most_line};
-ghost use Rattle.journal_text.specs.ReadingText.{IsNoLine, Taken, IsJournalOf, StopsAt, Reading, most_held, new_reader, fed, waiting, broken, TakesLine, TakesEntry, HasRead};
+ghost use Rattle.journal_text.specs.WritingText.{PlaceFits, EntryFits, head_words, entry_words, most_journal_line};
+ghost use Rattle.journal_text.specs.ReadingText.{IsNoLine, Taken, IsJournalOf, StopsAt, JournalReading, most_journal_held, new_reader, fed, waiting, broken, TakesLine, TakesEntry, HasRead};
 ghost use Rattle.journal_text.specs.ReadingAnswers.{IfHead, IfEntry, IfNotAJournal, taken_with};
 
 use super::journal_line::{read_entry, read_head};
-use crate::writing::MOST_LINE;
+use crate::writing::MOST_JOURNAL_LINE;
 use asp_base::NoMemory;
 use held_lines::HeldLines;
 use session_machine::{Entry, Profile};
@@ -51,10 +51,10 @@ pub struct JournalReader {
 impl Model for JournalReader {
     ghost use Rattle.std.specs.Prelude.{◌≡◌, ◌+◌, ◌-◌, ◌<◌, ◌≤◌, ◌^◌, length, IsTrue, IsFalse};
     ghost use Rattle.plain_words.specs.Words.{HasNo};
-    ghost use Rattle.journal_text.specs.WritingText.{most_line};
-    ghost use Rattle.journal_text.specs.ReadingText.{Reading, most_held};
+    ghost use Rattle.journal_text.specs.WritingText.{most_journal_line};
+    ghost use Rattle.journal_text.specs.ReadingText.{JournalReading, most_journal_held};
 
-    ghost Value = { Reading };
+    ghost Value = { JournalReading };
 
     ghost view = { λ r. record {
       held = r.lines;
@@ -64,8 +64,8 @@ impl Model for JournalReader {
       may_feed = r.may_feed;
     } };
 
-    ghost invariant = { λ r. (length r.lines ≤ most_held) × (r.offset + length r.lines < 2 ^ 63 - 1)
-        × (IsTrue r.may_feed → (length r.lines ≤ most_line) × HasNo 10 r.lines) };
+    ghost invariant = { λ r. (length r.lines ≤ most_journal_held) × (r.offset + length r.lines < 2 ^ 63 - 1)
+        × (IsTrue r.may_feed → (length r.lines ≤ most_journal_line) × HasNo 10 r.lines) };
 }
 
 impl JournalReader {
@@ -94,7 +94,7 @@ impl JournalReader {
             < 2 ^ 63 - 1 }
         ensures ok { OnOk result (self.new ≡ fed self.old piece.now) }
         ensures err { OnErr result (self.new ≡ self.old) }
-        ensures bound { length self.new.held ≤ most_held }
+        ensures bound { length self.new.held ≤ most_journal_held }
         ensures reads { OnOk result ((text : List ℕ) (taken : Taken) → HasRead text taken self.old
             → HasRead (text ++ piece.now) taken self.new) }
     {
@@ -108,7 +108,7 @@ impl JournalReader {
             < 2 ^ 63 - 1 }
         ensures ok { OnOk result (self.new ≡ fed self.old piece.now) }
         ensures err { OnErr result (self.new ≡ self.old) }
-        ensures bound { length self.new.held ≤ most_held }
+        ensures bound { length self.new.held ≤ most_journal_held }
     {
         if self.is_broken {
             self.lines.clear();
@@ -162,7 +162,7 @@ impl JournalReader {
         ensures more { result ≡ JournalNext.More → self.new ≡ waiting self.old }
         ensures none_whole { result ≡ JournalNext.More
             → IsFalse self.old.is_broken × HasNo 10 self.old.held
-            × (length self.old.held ≤ most_line) }
+            × (length self.old.held ≤ most_journal_line) }
 
         // The first line is none of its place, whatever follows, and the reader stays broken.
         ensures offset { IfNotAJournal result (λ offset. offset ≡ self.old.offset) }
@@ -173,7 +173,7 @@ impl JournalReader {
             → result ≡ JournalNext.NotAJournal self.old.offset }
 
         ensures no_memory { result ≡ JournalNext.NoMemory → self.new ≡ self.old }
-        ensures bound { length self.new.held ≤ most_held }
+        ensures bound { length self.new.held ≤ most_journal_held }
 
         // It takes bytes, and adds none.
         ensures counted { self.new.offset + length self.new.held ≤ self.old.offset
@@ -189,7 +189,7 @@ impl JournalReader {
             return self.break_off();
         }
         let Some(len) = self.lines.first_line() else {
-            if self.lines.as_slice().len() > MOST_LINE {
+            if self.lines.as_slice().len() > MOST_JOURNAL_LINE {
                 return self.break_off();
             }
             self.may_feed = true;

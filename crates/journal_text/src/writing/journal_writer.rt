@@ -15,7 +15,7 @@ use asp_messages::{
 use session_machine::{Deed, Entry, Profile};
 
 /// The most bytes of a line, without its line feed.
-pub const MOST_LINE: usize = 16_800_000;
+pub const MOST_JOURNAL_LINE: usize = 16_800_000;
 
 fn push_bytes(out: &mut Vec<u8>, bytes: &Bytes) -> Result<(), NoMemory>
     ensures ok { OnOk result (out.new.items ≡ out.old.items ++ bytes_word bytes.now) }

@@ -2,7 +2,7 @@ use Rattle.std.proofs.Common.{subst, sym, ◌≡◌, ℕ}
 use Rattle.std.specs.Prelude.{◌⊎◌}
 use Rattle.journal_replay.specs.Replay.{IsStatusOf}
 use Rattle.journal_replay.proofs.EndingLemmas.{replay_of, judged-complete, refused-complete}
-use Rattle.stream_run.specs.Flow.{flow}
+use Rattle.command_loop.specs.Flow.{flow}
 use Rattle.journal_replay.proofs.replay.run_replay.Goals as goal
 
 pub returns-clause-replay : goal.returns-clause-replay

@@ -2,9 +2,9 @@ use Rattle.std.proofs.Common.{refl, ◌≡◌, ◌+◌, ◌^◌, ◌++◌, ◌�
 use Rattle.session_machine.specs.declared.entry.Deed.TheVariants.{Asked}
 use Rattle.session_machine.specs.History.{nothing}
 use Rattle.asp_messages.specs.Fields.{most_cookie}
-use Rattle.shard_core.specs.Standing.{asked_entry}
-use Rattle.desk.specs.Draws.{draw_of, draws_in}
-use Rattle.load_generator.specs.Counting.{CountsAre}
+use Rattle.shard_core.specs.ShardStands.{asked_entry}
+use Rattle.plain_desk.specs.Draws.{draw_of, draws_in}
+use Rattle.load_generator.specs.StatusCounting.{CountsAre}
 use Rattle.load_generator.specs.Load.{Generating, answered, seeded, next_request, next_moment}
 use Rattle.load_generator.proofs.LoadLemmas.{AreMade-push, generated-push, CountsAre-push, CountsAre-below}
 use Rattle.load_generator.proofs.load.ask_all.Goals as goal

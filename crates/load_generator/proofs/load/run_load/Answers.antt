@@ -1,6 +1,6 @@
 use Rattle.std.proofs.Common.{sym, subst}
-use Rattle.desk.specs.Standing.{state_of}
-use Rattle.load_generator.specs.Run.{IsLoad}
+use Rattle.plain_desk.specs.DeskStands.{desk_state}
+use Rattle.load_generator.specs.LoadRun.{IsLoad}
 use Rattle.load_generator.proofs.EndLemmas.{unfinished, finished}
 use Rattle.load_generator.proofs.load.run_load.Goals as goal
 
@@ -15,7 +15,7 @@ returns-in_default-clause-load g c =
     }))
     (sym c.into_keeper.ensures)
     (unfinished g.K.Keeper.can_count c.args.load (g.T.Sink.taken c.args.sink.now)
-    (state_of g.K.Keeper c.ask_all.new.desk) asked.0 asked.1)
+    (desk_state g.K.Keeper c.ask_all.new.desk) asked.0 asked.1)
 
 pub returns-clause-load : goal.returns-clause-load
 returns-clause-load g c =
@@ -29,6 +29,6 @@ returns-clause-load g c =
     (sym c.into_keeper-2.ensures)
     (finished g.K.Keeper.can_count c.args.load c.sweep-removed.result c.write_counts.result
     (g.T.Sink.taken c.args.sink.now) (g.T.Sink.taken c.write_counts.new.sink)
-    (state_of g.K.Keeper c.sweep-removed.new.desk) c.in-Ok.counts asked.0
-    (state_of g.K.Keeper c.ask_all.new.desk, asked.1) asked.2.0 asked.2.1
+    (desk_state g.K.Keeper c.sweep-removed.new.desk) c.in-Ok.counts asked.0
+    (desk_state g.K.Keeper c.ask_all.new.desk, asked.1) asked.2.0 asked.2.1
     (c.sweep-removed.ensures.sweeps 1 asked.0 asked.1.desk) c.write_counts.ensures.writes)

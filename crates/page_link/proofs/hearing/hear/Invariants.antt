@@ -1,5 +1,5 @@
 use Rattle.std.proofs.Common.{◌≡◌, ◌≤◌, ℕ, List, length, ◌-◌}
-use Rattle.message_framing.specs.Held.{most_held}
+use Rattle.message_framing.specs.ReaderState.{most_held}
 use Rattle.page_link.specs.Links.{Receives}
 use Rattle.page_link.specs.Exchanges.{IsFed}
 use Rattle.page_link.proofs.hearing.hear.Given as goal

@@ -1,5 +1,5 @@
 use Rattle.std.proofs.Common.{◌≤◌, ℕ, Some, ap, arith}
-use Rattle.message_framing.specs.Held.{Held}
+use Rattle.message_framing.specs.ReaderState.{ReaderState}
 use Rattle.asp_base.specs.Causes.{Rose}
 use Rattle.page_link.specs.Visits.{Scene}
 use Rattle.page_link.proofs.TurnLemmas.{may_turn, not_begun}
@@ -16,8 +16,8 @@ loop-init g c = (
   not_begun c.args.ending c.args.visit.now (g.L.Link.told c.args.link.now)
       (g.L.Link.pauses c.args.link.now)
       (g.C.Clock.told c.args.clock.now) c.new-client.result.reader.bytes.held c.requires.new
-      (ap (λ (h : Held). h.held) c.new-client.ensures),
-  ap (λ (h : Held). h.is_broken) c.new-client.ensures,
+      (ap (λ (h : ReaderState). h.held) c.new-client.ensures),
+  ap (λ (h : ReaderState). h.is_broken) c.new-client.ensures,
   omega arith,
 )
 

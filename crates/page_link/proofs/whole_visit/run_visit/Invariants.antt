@@ -1,12 +1,12 @@
 use Rattle.std.proofs.Common.{◌≡◌, ◌≤◌, false}
-use Rattle.page_link.specs.Exchanges.{IsUnderway}
+use Rattle.page_link.specs.Exchanges.{VisitIsUnderway}
 use Rattle.page_link.proofs.whole_visit.run_visit.Given as goal
 
 abbrev pub invariant-loop : goal.invariant-loop
 invariant-loop g l =
     (goal.iterator-loop g).can_next l.iterator'
     × (goal.iterator-loop g).is_finite l.iterator'
-    × IsUnderway l.fn.ending (record {
+    × VisitIsUnderway l.fn.ending (record {
       visit = l.fn.visit;
       link = g.L.Link.told l.fn.link;
       pauses = g.L.Link.pauses l.fn.link;

@@ -1,7 +1,7 @@
 use Rattle.std.proofs.Common.{◌≡◌, ℕ, ◌∙◌, ap, subst, sym}
 use Rattle.std.specs.Prelude.{◌⊎◌}
-use Rattle.stream_run.specs.Flow.{flow}
-use Rattle.pipe_command.specs.Run.{IsRun}
+use Rattle.command_loop.specs.Flow.{flow}
+use Rattle.pipe_command.specs.PipeRun.{IsRun}
 use Rattle.pipe_command.proofs.CompleteLemmas.{complete_run}
 use Rattle.pipe_command.proofs.EndingLemmas.{floor_of, run_of}
 use Rattle.pipe_command.proofs.pipe_run.run_pipe.Goals as goal

@@ -1,7 +1,7 @@
 use Rattle.std.proofs.Common.{◌≡◌}
 use Rattle.std.specs.Prelude.{All}
 use Rattle.state_store.specs.Passes.{IsPassOf, caller_of}
-use Rattle.stream_server.specs.Passes.{HaveSameCallers, MeetsUpTo}
+use Rattle.stream_server.specs.WorkerPasses.{HaveSameCallers, MeetsUpTo}
 use Rattle.stream_server.proofs.seating.meet_each.Given as goal
 
 abbrev pub invariant-loop-k : goal.invariant-loop-k

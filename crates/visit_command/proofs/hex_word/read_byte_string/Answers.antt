@@ -1,7 +1,7 @@
 use Rattle.std.proofs.Common.{◌≡◌, ◌≤◌, true, Some, Ok, length, drop, sym, ap, ◌∙◌}
 use Rattle.std.proofs.lemmas.List.{take_rest}
 use Rattle.hex.specs.Hex.{decode_of}
-use Rattle.visit_command.specs.Words.{are_digits, byte_string}
+use Rattle.visit_command.specs.VisitWords.{are_digits, byte_string}
 use Rattle.visit_command.proofs.ByteStringLemmas.{string_read}
 use Rattle.visit_command.proofs.hex_word.read_byte_string.Goals as goal
 

@@ -1,15 +1,15 @@
 use Rattle.std.proofs.Common.{◌≡◌, ◌+◌, refl, sym, ap, ◌∙◌, subst, inl, inr}
 use Rattle.page_link.specs.Visits.{TellsReplies}
-use Rattle.visit_core.specs.declared.terms.Limits.{Limits}
-use Rattle.visit_core.specs.Terms.{Terms, default_limits, most_requests}
+use Rattle.visit_core.specs.declared.visit_terms.Limits.{Limits}
+use Rattle.visit_core.specs.Terms.{VisitTerms, default_limits, most_requests}
 use Rattle.visit_command.specs.Top.{enough_replies}
 use Rattle.visit_command.proofs.visit_outcome.visit.Goals as goal
 
 -- the replies that are enough by the default limits are so by those of a visit that has them
-enough : (terms terms' : Terms) (limits : Limits) → terms ≡ terms' → terms'.limits ≡ limits
+enough : (terms terms' : VisitTerms) (limits : Limits) → terms ≡ terms' → terms'.limits ≡ limits
     → limits ≡ default_limits → enough_replies ≡ most_requests terms.limits + 1
 enough terms terms' limits same its default =
-    sym (ap (λ (l : Limits). most_requests l + 1) (ap (λ (t : Terms). t.limits) same
+    sym (ap (λ (l : Limits). most_requests l + 1) (ap (λ (t : VisitTerms). t.limits) same
     ∙ its ∙ default))
 
 pub returns-in-Over-clause-complete : goal.returns-in-Over-clause-complete

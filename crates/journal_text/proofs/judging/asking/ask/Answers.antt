@@ -1,7 +1,7 @@
 use Rattle.std.proofs.Common.{Some, ap, subst, sym, ◌∙◌}
 use Rattle.std.proofs.lemmas.Map.Steps.{set_value_same}
 use Rattle.session_machine.specs.Machine.{Circumstances}
-use Rattle.journal_text.specs.JudgingDeeds.{Leaves}
+use Rattle.journal_text.specs.JudgingDeeds.{LeavesOf}
 use Rattle.journal_text.proofs.ItemLemmas.{asked-item, asked-nothing, on_err, some-there}
 use Rattle.journal_text.proofs.judging.asking.ask.Goals as goal
 
@@ -23,7 +23,7 @@ returns-in-Item-clause-asked c =
     asked-item c.args.profile c.args.items.now c.args.request c.in-Some.item.now new at
     c.args.reply c.in-Some.ensures.value (c.get_mut.follows.lender new)
     ((c.get_mut.follows.holds new).3 (some-there _ _ c.in-Some.ensures.value))
-    (subst (Leaves c.args.profile c.in-Some.item.now new c.args.request at c.args.reply)
+    (subst (LeavesOf c.args.profile c.in-Some.item.now new c.args.request at c.args.reply)
     c.in-Item.is c.in_ok-why.ensures.left)
 
 pub returns-in-Nothing-clause-asked : goal.returns-in-Nothing-clause-asked
@@ -38,6 +38,6 @@ returns-in-Nothing-clause-asked c =
     c.args.reply c.in-Some.ensures.value (c.get_mut.follows.lender new)
     c.remove.new.self c.in-Nothing.key ((c.get_mut.follows.holds new).3
     (some-there _ _ c.in-Some.ensures.value))
-    (subst (Leaves c.args.profile c.in-Some.item.now new c.args.request at c.args.reply)
+    (subst (LeavesOf c.args.profile c.in-Some.item.now new c.args.request at c.args.reply)
     c.in-Nothing.is c.in_ok-why.ensures.left)
     c.remove.ensures.updates

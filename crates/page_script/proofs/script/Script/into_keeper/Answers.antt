@@ -1,6 +1,6 @@
 use Rattle.std.proofs.Common.{sym, subst}
 use Rattle.page_script.specs.World.{PagesForceOldLocks}
-use Rattle.page_script.specs.Standing.{IfTold}
+use Rattle.page_script.specs.ScriptStands.{IfTold}
 use Rattle.page_script.proofs.LawfulLemmas.{lawful, forced}
 use Rattle.page_script.proofs.script.Script.into_keeper.Goals as goal
 

@@ -1,5 +1,5 @@
 use Rattle.std.proofs.Common.{refl, ◌∙◌}
-use Rattle.desk.specs.Standing.{state_of}
+use Rattle.plain_desk.specs.DeskStands.{desk_state}
 use Rattle.page_script.proofs.StepLemmas.{undone_ok, undone_err, EachSteps-prints}
 use Rattle.page_script.proofs.PlaceLemmas.{unused-no_name, place-named}
 use Rattle.page_script.proofs.WorldLemmas.{each-taken, may-taken}
@@ -21,8 +21,8 @@ returns-in-Ok-clause-done g c end world stands =
     place.inside c.index_mut.ensures.value (place-named c.args.self.now.pages.items c.args.name
     c.in-Some.place c.index_mut.result.now place c.index_mut.ensures.value) refl refl _
     (EachSteps-prints g.K.Keeper.can_count c.args.t c.index_mut.result.now
-    c.step-written.new.self (state_of g.K.Keeper c.args.self.now.desk)
-    (state_of g.K.Keeper c.step-written.new.desk) _ _
+    c.step-written.new.self (desk_state g.K.Keeper c.args.self.now.desk)
+    (desk_state g.K.Keeper c.step-written.new.desk) _ _
     (λ words is. made.0 ∙ is) made.1)
 
 pub returns-in-Err-clause-no_memory : goal.returns-in-Err-clause-no_memory

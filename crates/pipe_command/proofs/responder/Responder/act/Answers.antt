@@ -2,14 +2,15 @@ use Rattle.std.proofs.Common.{sym, subst, ap, refl, arith}
 use Rattle.asp_base.specs.Moments.{Ticking}
 use Rattle.asp_messages.specs.declared.request.Message.{Message}
 use Rattle.session_machine.specs.History.{nothing}
-use Rattle.pipe_command.specs.Answering.{Answers}
-use Rattle.pipe_command.specs.Responding.{state_of}
+use Rattle.pipe_command.specs.Answering.{AnswersAtMoment}
+use Rattle.pipe_command.specs.Responding.{state_of_responder}
 use Rattle.pipe_command.proofs.responder.Responder.act.Goals as goal
 
 pub returns-in-Fit-clause-answers : goal.returns-in-Fit-clause-answers
 returns-in-Fit-clause-answers g c =
-    subst (λ (m : Message). Answers g.K.Keeper.can_count m (state_of g.K.Keeper c.args.self.now)
-    (state_of g.K.Keeper (record c.args.self.now {
+    subst (λ (m : Message). AnswersAtMoment g.K.Keeper.can_count m
+    (state_of_responder g.K.Keeper c.args.self.now)
+    (state_of_responder g.K.Keeper (record c.args.self.now {
       clock = c.tick-moment.new.self;
       desk = c.act-acted.new.self;
     }))

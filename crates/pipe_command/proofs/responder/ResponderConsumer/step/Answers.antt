@@ -1,7 +1,7 @@
 use Rattle.std.proofs.Common.{◌∙◌, ap, refl, rules, sym, subst}
 use Rattle.asp_messages.specs.RequestSpelling.{SpellsRequest}
 use Rattle.asp_messages.specs.Stream.{HasNoMessage}
-use Rattle.message_framing.specs.Held.{Held}
+use Rattle.message_framing.specs.ReaderState.{ReaderState}
 use Rattle.pipe_command.specs.declared.pipe.Pipe.{Pipe}
 use Rattle.pipe_command.specs.declared.responder.Responder.{Responder}
 use Rattle.pipe_command.specs.PlainRun.{closing, output_of}
@@ -49,10 +49,11 @@ returns-in-More-clause-waits g c = λ is.
     let same = c.in-More.ensures.more refl in
     record {
       is_begun = search rules;
-      may_feed = ap (λ (h : Held). h.may_feed) same;
-      none = λ whole. subst (HasNoMessage SpellsRequest) (sym (ap (λ (h : Held). h.held) same))
+      may_feed = ap (λ (h : ReaderState). h.may_feed) same;
+      none = λ whole. subst (HasNoMessage SpellsRequest)
+          (sym (ap (λ (h : ReaderState). h.held) same))
           (c.in-More.ensures.none_whole refl);
-      whole = λ more. ap (λ (h : Held). h.is_broken) same
+      whole = λ more. ap (λ (h : ReaderState). h.is_broken) same
           ∙ not_true c.args.self.now.stream.reader.is_broken
           (λ wrong. let ends = c.next.ensures.stays wrong in let is = c.in-More.is in cc);
     }

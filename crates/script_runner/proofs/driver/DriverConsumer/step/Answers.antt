@@ -1,5 +1,5 @@
 use Rattle.std.proofs.Common.{◌+◌, [], ◌++◌, append-nil, take, drop, refl, sym, ◌∙◌, subst, inl}
-use Rattle.script_runner.specs.Running.{HasRun}
+use Rattle.script_runner.specs.ScriptRunning.{HasRun}
 use Rattle.script_runner.proofs.RunLemmas.{HasRun-last, split_of, line_done, line_wrong, line_lacks}
 use Rattle.script_runner.proofs.driver.DriverConsumer.step.Goals as goal
 

@@ -2,7 +2,7 @@ use Rattle.std.proofs.Common.{subst, ap}
 use Rattle.asp_messages.specs.RequestSpelling.{SpellsRequest}
 use Rattle.asp_messages.specs.Stream.{HasNoMessage, IsHopeless}
 use Rattle.std.specs.Prelude.{◌⊎◌, IsTrue}
-use Rattle.message_framing.specs.Held.{Held}
+use Rattle.message_framing.specs.ReaderState.{ReaderState}
 use Rattle.stream_core.specs.Connection.{Connection}
 use Rattle.stream_core.proofs.stream.Stream.next.Goals as goal
 
@@ -13,5 +13,5 @@ returns-clause-none_whole c = λ is.
 
 pub returns-clause-hopeless : goal.returns-clause-hopeless
 returns-clause-hopeless c = λ is.
-    subst (λ (r : Held). IsTrue r.is_broken ⊎ IsHopeless SpellsRequest r.held)
+    subst (λ (r : ReaderState). IsTrue r.is_broken ⊎ IsHopeless SpellsRequest r.held)
     (ap (λ (s : Connection). s.reader) c.self.view_is) (c.next.ensures.hopeless is)

@@ -1,0 +1,5 @@
+pub mod Feeding
+pub mod Status
+pub mod Flow
+pub mod LoopRunning
+pub mod Ending

@@ -1,5 +1,0 @@
-use Rattle.std.proofs.Common.{IsTrue}
-use Rattle.wire_tests.proofs.counts.course_of.Given as goal
-
-abbrev pub invariant-loop-piece : goal.invariant-loop-piece
-invariant-loop-piece l = IsTrue l.reader.bytes.may_feed
