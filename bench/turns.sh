@@ -29,7 +29,7 @@ use std::alloc::{AllocError, Global};
 use std::sync::Wait;
 use std::thread::{Threads, map_vec};
 use std::time::Instant;
-use turnstile::{FreshTurns, Spent, Stands, Terms, TurnPass, TurnRoll, Turnstile};
+use turnstile::{FreshTurns, Spent, Stands, TurnTerms, TurnPass, TurnRoll, Turnstile};
 
 const TURNS: u64 = 200_000;
 
@@ -102,7 +102,7 @@ fn make_passes<R>(
 
 fn main(rt: HostRuntime) -> anyhow::Result<()> {
     for threads in [1u64, 2, 4, 8] {
-        let terms = Terms { first_place: 0, first_number: 0, last_number: 0 };
+        let terms = TurnTerms { first_place: 0, first_number: 0, last_number: 0 };
         let Ok(fresh) = Turnstile::new(&rt, rt.alloc(), Sum { sum: 0 }, terms) else {
             return Ok(());
         };
