@@ -14,8 +14,8 @@ returns-then-not-self-clause-did g c = λ is first taken due went.
     begin_did g.K.Keeper first c.args.self.now _ taken due refl refl refl refl
     (search rules) refl refl went
 
-pub answer-requires-clause-message : goal.answer-requires-clause-message
-answer-requires-clause-message g c =
+pub answer-requires : goal.answer-requires
+answer-requires g c =
     let took = c.in-Message.ensures.message in
     fit_of_spelling took.front c.in-Message.message took.spells
 
