@@ -17,7 +17,7 @@ returns-then-not-self-clause-did g c = λ is first taken due went.
 pub answer-requires : goal.answer-requires
 answer-requires g c =
     let took = c.in-Message.ensures.message in
-    fit_of_spelling took.front c.in-Message.message took.spells
+    record { message = fit_of_spelling took.front c.in-Message.message took.spells }
 
 pub returns-in-Ok-clause-did : goal.returns-in-Ok-clause-did
 returns-in-Ok-clause-did g c = λ is first taken due went.
