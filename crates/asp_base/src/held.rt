@@ -1,14 +1,14 @@
-//! Bytes that are held, and read only by calls that count.
+//! Bytes held for a reader, and a count of the steps that it takes, for proofs alone.
 ghost use Rattle.std.specs.Prelude.{◌≡◌, ◌<◌, ◌≤◌, ◌+◌, ◌++◌, [], length, take, drop, slice_index, IfOk, IsOk, OnOk, OnErr, MatchOption};
 ghost use Rattle.asp_base.specs.Places.{HasNone, IsFirstPlace};
 
-use crate::{Bytes, NoMemory, StepCount};
+use crate::{Bytes, NoMemory};
 use memchr::memchr;
 use std::alloc::Global;
 use std::fmt;
 use std::marker::Model;
 use std::mem::replace;
-use std::sync::ledger::Ledger;
+use std::sync::ledger::{Blank, Book, Ledger, Share};
 
 /// The least length of a body that `split` takes with the vector that it lies in, in bytes.
 const LARGE: u64 = 16_384;
@@ -194,5 +194,42 @@ impl Held {
         bytes.truncate(to);
         compact(&mut bytes, &mut from);
         Ok(Bytes::adopt_behind(bytes, from as u32))
+    }
+}
+
+/// How many steps were taken. It takes no bytes, and only calls that say so change it.
+#[derive(Drop)]
+pub struct StepCount<L: Ledger> {
+    book: Book<L>,
+    share: Share<L>,
+}
+
+impl<L: Ledger> Model for StepCount<L> {
+    ghost use Rattle.std.specs.Prelude.{ℕ, ◌<◌};
+
+    ghost Value = { ℕ };
+
+    ghost view = { λ s. s.book.total };
+
+    ghost invariant = { λ s. 0 < s.share.parts };
+}
+
+impl<L: Ledger> StepCount<L> {
+    /// No steps yet. The ledger is that of `blank`, of at least one part.
+    pub fn new(blank: Blank) -> StepCount<L>
+        requires name { blank.name ≡ L.name }
+        requires parts { blank.parts ≡ L.parts }
+        requires has_parts { 0 < L.parts }
+        ensures { result ≡ 0 }
+    {
+        let (book, share) = blank.open();
+        StepCount { book, share }
+    }
+
+    /// Counts `n` steps more.
+    pub(crate) fn add(&mut self, n: u64)
+        ensures { self.new ≡ self.old + n }
+    {
+        self.book.add(&mut self.share, n);
     }
 }

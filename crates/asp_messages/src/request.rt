@@ -1,8 +1,22 @@
-//! What a web server asks of the state server.
-ghost use Rattle.std.specs.Prelude.{◌≡◌, IfOk};
+//! What a web server asks of the state server, and what is in range of it.
+ghost use Rattle.std.specs.Prelude.{◌≡◌, IfOk, ◌↔◌, IsTrue};
+ghost use Rattle.asp_messages.specs.Fields.{named};
+ghost use Rattle.asp_messages.specs.Ranges.{AskFits, BodyFits, CookieFits, MinutesFit, RequestFits};
 
 use asp_base::{Bytes, NoMemory};
 use std::alloc::Global;
+
+/// The most bytes of a key.
+pub const MOST_KEY: usize = 1024;
+
+/// The most bytes of a body.
+pub const MOST_BODY: u64 = 4_194_304;
+
+/// The longest timeout, in minutes.
+pub const MOST_MINUTES: u64 = 525_600;
+
+/// The greatest cookie.
+pub const MOST_COOKIE: u64 = (1 << 63) - 1;
 
 /// A request for one session's item ([MS-ASP], section 2.2).
 #[derive(Debug, PartialEq, Eq, Drop)]
@@ -90,4 +104,56 @@ pub enum Message {
     Fit(Request),
     /// A whole message that is no request; it is answered 400 and the stream goes on.
     Unfit,
+}
+
+/// The cookie that a number names: 0 names none.
+pub fn named(cookie: u64) -> Option<u64>
+    ensures { result ≡ named cookie }
+{
+    if cookie == 0 { None } else { Some(cookie) }
+}
+
+pub(crate) fn body_fits(body: &Bytes) -> bool
+    ensures { IsTrue result ↔ BodyFits body.now }
+{
+    body.as_slice().len() as u64 <= MOST_BODY
+}
+
+pub(crate) fn cookie_fits(cookie: Option<u64>) -> bool
+    ensures { IsTrue result ↔ CookieFits cookie }
+{
+    match cookie {
+        None => true,
+        Some(cookie) => cookie > 0 && cookie <= MOST_COOKIE,
+    }
+}
+
+pub(crate) fn minutes_fit(minutes: u64) -> bool
+    ensures { IsTrue result ↔ MinutesFit minutes }
+{
+    minutes > 0 && minutes <= MOST_MINUTES
+}
+
+fn ask_fits(ask: &Ask) -> bool
+    ensures { IsTrue result ↔ AskFits ask.now }
+{
+    match ask {
+        Ask::Read | Ask::Acquire | Ask::Reset => true,
+        Ask::Release { cookie } => *cookie <= MOST_COOKIE,
+        Ask::Write {
+            body,
+            minutes,
+            cookie,
+            ..
+        } => body_fits(body) && minutes_fit(*minutes) && cookie_fits(*cookie),
+        Ask::Remove { cookie } => cookie_fits(*cookie),
+    }
+}
+
+/// Whether each length and number of the request is in its range.
+pub fn request_fits(request: &Request) -> bool
+    ensures { IsTrue result ↔ RequestFits request.now }
+{
+    let key = request.key.as_slice();
+    !key.is_empty() && key.len() <= MOST_KEY && ask_fits(&request.ask)
 }

@@ -1,7 +1,7 @@
 -- What a reader of journals gave may be written again in its profile.
 use Rattle.std.proofs.Common.{◌≡◌, Option, Some, sym, subst, ◌∙◌}
 use Rattle.session_machine.specs.declared.entry.Entry.{Entry}
-use Rattle.session_machine.specs.declared.profile.Profile.{Profile}
+use Rattle.session_machine.specs.declared.item.Profile.{Profile}
 use Rattle.journal_text.specs.WritingText.{TellsOnly}
 use Rattle.journal_text.specs.ReadingText.{JournalReading, TakesEntry}
 

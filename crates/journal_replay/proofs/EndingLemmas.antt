@@ -4,7 +4,7 @@ use Rattle.std.specs.Prelude.{◌⊎◌}
 use Rattle.asp_base.specs.Outside.{Takes, TakesFront}
 use Rattle.lock_laws.proofs.LawLemmas.{LocksHoldIn-of_legal}
 use Rattle.session_machine.specs.declared.entry.Entry.{Entry}
-use Rattle.session_machine.specs.declared.profile.Profile.{Profile}
+use Rattle.session_machine.specs.declared.item.Profile.{Profile}
 use Rattle.session_machine.specs.History.{nothing}
 use Rattle.journal_text.specs.declared.judging.judgement.Judgement.{Judgement}
 use Rattle.journal_text.specs.declared.judging.judgement.Judgement.TheVariants.{Legal, Illegal}

@@ -4,7 +4,7 @@ use Rattle.std.specs.Prelude.{codes, MatchBool}
 use Rattle.std.specs.List.{flat_map}
 use Rattle.plain_words.specs.Words.{HasNo}
 use Rattle.session_machine.specs.declared.entry.Entry.{Entry}
-use Rattle.session_machine.specs.declared.profile.Profile.{Profile}
+use Rattle.session_machine.specs.declared.item.Profile.{Profile}
 use Rattle.journal_text.specs.declared.reading.journal_reader.JournalNext.TheVariants as nexts
 use Rattle.journal_text.specs.JudgingChecker.{Checked, HasTaken}
 use Rattle.journal_text.specs.WritingText.{entry_words, entry_line, head_line, line, most_journal_line}

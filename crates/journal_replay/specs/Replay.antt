@@ -5,7 +5,7 @@ use Rattle.asp_base.specs.Outside.{Gives, IsAtEnd, Takes, TakesFront}
 use Rattle.asp_messages.specs.PlainSpelling.{◌then◌}
 use Rattle.plain_words.specs.Words.{HasNo}
 use Rattle.session_machine.specs.declared.entry.Entry.{Entry}
-use Rattle.session_machine.specs.declared.profile.Profile.{Profile}
+use Rattle.session_machine.specs.declared.item.Profile.{Profile}
 use Rattle.session_machine.specs.History.{nothing}
 use Rattle.lock_laws.specs.Laws.{LocksHoldIn}
 use Rattle.journal_text.specs.declared.judging.judgement.Judgement.{Judgement}

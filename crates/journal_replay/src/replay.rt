@@ -2,7 +2,7 @@
 ghost use Rattle.std.specs.Prelude.{◌≡◌, ◌⊎◌, ◌≤◌, ℕ, List, Option, IsTrue};
 ghost use Rattle.asp_base.specs.Causes.{Rose};
 ghost use Rattle.asp_base.specs.Limits.{most_input};
-ghost use Rattle.session_machine.specs.declared.profile.Profile.{Profile};
+ghost use Rattle.session_machine.specs.declared.item.Profile.{Profile};
 ghost use Rattle.session_machine.specs.declared.entry.Entry.{Entry};
 ghost use Rattle.journal_replay.specs.Replay.{ReplayEnd, IsReplay, IsStatusOf, TellsJournal, TellsNoJournal, status_of_replay};
 

@@ -6,7 +6,7 @@ use Rattle.std.proofs.lemmas.Bool.{cases_eq}
 use Rattle.std.proofs.lemmas.List.{flat_map_more}
 use Rattle.std.proofs.lemmas.List.Elements.{All-append, All-cons, All-nil}
 use Rattle.session_machine.specs.declared.entry.Entry.{Entry}
-use Rattle.session_machine.specs.declared.profile.Profile.{Profile}
+use Rattle.session_machine.specs.declared.item.Profile.{Profile}
 use Rattle.plain_words.specs.Words.{HasNo, SplitsAt}
 use Rattle.journal_text.specs.declared.reading.journal_reader.JournalNext.{JournalNext}
 use Rattle.journal_text.specs.declared.reading.journal_reader.JournalNext.TheVariants as nexts

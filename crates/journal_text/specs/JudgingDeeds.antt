@@ -7,7 +7,7 @@ use Rattle.asp_messages.specs.declared.request.Request.{Request}
 use Rattle.session_machine.specs.declared.entry.Deed.{Deed}
 use Rattle.session_machine.specs.declared.entry.Deed.TheVariants.{Asked, Expired, Looked}
 use Rattle.session_machine.specs.declared.item.Item.{Item}
-use Rattle.session_machine.specs.declared.profile.Profile.{Profile}
+use Rattle.session_machine.specs.declared.item.Profile.{Profile}
 use Rattle.session_machine.specs.Liveness.{ItemFits}
 use Rattle.session_machine.specs.Machine.{Circumstances, effect}
 use Rattle.session_machine.specs.History.{IsDead, after_reply}

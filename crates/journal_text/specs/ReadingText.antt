@@ -3,7 +3,7 @@ use Rattle.std.specs.Prelude.{◌≡◌, ◌≢◌, ◌⊎◌, ℕ, ◌+◌, ◌
 use Rattle.std.specs.List.{AllByRecursion}
 use Rattle.asp_base.specs.Limits.{most_piece}
 use Rattle.session_machine.specs.declared.entry.Entry.{Entry}
-use Rattle.session_machine.specs.declared.profile.Profile.{Profile}
+use Rattle.session_machine.specs.declared.item.Profile.{Profile}
 use Rattle.plain_words.specs.Words.{HasNo, SplitsAt}
 use Rattle.journal_text.specs.WritingText.{head_words, entry_words, line, journal_text, PlaceFits, EntryFits, IsJournal, most_journal_line}
 

@@ -3,8 +3,8 @@ use Rattle.std.specs.Prelude.{◌≡◌, ℕ, ◌+◌, ◌-◌, ◌^◌, List, O
 use Rattle.asp_base.specs.InMemory.{counted_once_more}
 use Rattle.session_machine.specs.declared.item.Item.{Item}
 use Rattle.keeper.specs.KeeperCauses.{HasKeepCause}
-use Rattle.keeper.specs.declared.keep_error.KeepError.{KeepError}
-use Rattle.keeper.specs.declared.keep_error.KeepError.TheVariants.{Fault}
+use Rattle.keeper.specs.declared.keeping.KeepError.{KeepError}
+use Rattle.keeper.specs.declared.keeping.KeepError.TheVariants.{Fault}
 use Rattle.keeper.specs.declared.keeping.Keeper.{Ghosts}
 
 -- The keeper that it wraps, how many calls were made, which are listed, and how many of these were

@@ -1,8 +1,8 @@
 -- The cause of a keeper's fault.
 use Rattle.std.specs.Prelude.{ℕ, ◌≤◌, Result, IsErrOf}
 use Rattle.asp_base.specs.Causes.{Rose}
-use Rattle.keeper.specs.declared.keep_error.KeepError.{KeepError}
-use Rattle.keeper.specs.declared.keep_error.KeepError.TheVariants.{Fault}
+use Rattle.keeper.specs.declared.keeping.KeepError.{KeepError}
+use Rattle.keeper.specs.declared.keeping.KeepError.TheVariants.{Fault}
 
 -- The count of faults never falls, and a fault comes only where it rose. Want of memory is free.
 pub record HasKeepCause {T : Type 0} (before now : ℕ) (result : Result T KeepError) : Type 0 where

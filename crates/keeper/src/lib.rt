@@ -2,7 +2,6 @@
 #![tactic(auto)]
 
 mod faulty_keeper;
-mod keep_error;
 mod keeping;
 mod list_keeper;
 mod map_keeper;
@@ -11,8 +10,7 @@ mod pairs_due;
 mod ran;
 
 pub use faulty_keeper::FaultyKeeper;
-pub use keep_error::KeepError;
-pub use keeping::Keeper;
+pub use keeping::{KeepError, Keeper};
 pub use list_keeper::ListKeeper;
 pub use map_keeper::{Due, MapKeeper};
 pub use ran::Ran;

@@ -11,7 +11,7 @@ use Rattle.session_machine.specs.declared.entry.Entry.{Entry}
 use Rattle.session_machine.specs.declared.entry.Deed.{Deed}
 use Rattle.session_machine.specs.declared.entry.Deed.TheVariants.{Asked, Expired, Looked}
 use Rattle.session_machine.specs.declared.item.Item.{Item}
-use Rattle.session_machine.specs.declared.profile.Profile.{Profile}
+use Rattle.session_machine.specs.declared.item.Profile.{Profile}
 use Rattle.session_machine.specs.declared.item.Hold.{Hold}
 use Rattle.session_machine.specs.Liveness.{seen, is_live}
 use Rattle.session_machine.specs.Machine.{Effect, on_absent, on_free, on_held, on_there, on_seen, effect, Step}

@@ -8,7 +8,7 @@ use Rattle.session_machine.specs.declared.entry.Entry.{Entry}
 use Rattle.session_machine.specs.declared.entry.Deed.{Deed}
 use Rattle.session_machine.specs.declared.entry.Deed.TheVariants.{Asked, Expired, Looked}
 use Rattle.session_machine.specs.declared.item.Item.{Item}
-use Rattle.session_machine.specs.declared.profile.Profile.{Profile}
+use Rattle.session_machine.specs.declared.item.Profile.{Profile}
 use Rattle.session_machine.specs.History.{Marked, marked, is_deed_of, entries_of, after_entry, DeedStands, Lead, LookStands, IsLegalIn, has_risen, circumstances_of, after_reply}
 use Rattle.session_machine.specs.Machine.{Step}
 use Rattle.lock_laws.specs.InForce.{is_refused}

@@ -4,7 +4,7 @@ use Rattle.std.specs.Prelude.{IfSome}
 use Rattle.std.specs.List.{AllByRecursion}
 use Rattle.session_machine.specs.declared.entry.Entry.{Entry}
 use Rattle.session_machine.specs.declared.item.Item.{Item}
-use Rattle.session_machine.specs.declared.profile.Profile.{Profile}
+use Rattle.session_machine.specs.declared.item.Profile.{Profile}
 use Rattle.session_machine.specs.declared.item.Hold.{Hold}
 use Rattle.session_machine.specs.History.{Marked, has_risen, marked, is_deed_of, entries_of, after_entry, after_entries, DeedStands, IsFormed, Lead, LookStands, CountsRise, DrawsRise, IsHeldBelow, IsLegalIn, item_after_in, count_after}
 use Rattle.session_machine.proofs.HistoryLemmas.{item_after-same, item_after-other}

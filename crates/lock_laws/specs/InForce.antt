@@ -11,7 +11,7 @@ use Rattle.session_machine.specs.declared.entry.Deed.{Deed}
 use Rattle.session_machine.specs.declared.entry.Deed.TheVariants.{Asked, Expired}
 use Rattle.session_machine.specs.declared.item.Item.{Item}
 use Rattle.session_machine.specs.declared.item.Hold.{Hold}
-use Rattle.session_machine.specs.declared.profile.Profile.{Profile}
+use Rattle.session_machine.specs.declared.item.Profile.{Profile}
 use Rattle.session_machine.specs.History.{is_deed_of, item_after_in}
 
 -- the entries on one key, in order

@@ -3,7 +3,7 @@
 ghost use Rattle.std.specs.Prelude.{ℕ, List, Option};
 ghost use Rattle.session_machine.specs.declared.entry.Entry.{Entry};
 ghost use Rattle.session_machine.specs.declared.item.Item.{Item};
-ghost use Rattle.session_machine.specs.declared.profile.Profile.{Profile};
+ghost use Rattle.session_machine.specs.declared.item.Profile.{Profile};
 ghost use Rattle.session_machine.specs.History.{IsLegalIn};
 ghost use Rattle.lock_laws.specs.Laws.{ActsOnlyInForce, InForceIsDone, NoUpdateIsLost, NobodyElse, LockInTheWayIsInForce, LocksHoldIn, FaultsAreCounted};
 

@@ -4,8 +4,8 @@ use Rattle.std.proofs.lemmas.List.{take_at}
 use Rattle.std.proofs.Math.Nat.{lt_of_not-le}
 use Rattle.std.proofs.Math.Seq.{take-append-add}
 use Rattle.asp_messages.proofs.FramingLemmas.{split_alike}
-use Rattle.message_framing.specs.declared.head_end.Phase.{Phase}
-use Rattle.message_framing.specs.declared.head_end.Phase.TheVariants.{Blank}
+use Rattle.message_framing.specs.declared.head.Phase.{Phase}
+use Rattle.message_framing.specs.declared.head.Phase.TheVariants.{Blank}
 use Rattle.message_framing.specs.HeadEnd.{after, seen, EndsHead}
 
 -- ---- bytes in two parts

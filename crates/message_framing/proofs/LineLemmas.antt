@@ -4,8 +4,8 @@ use Rattle.std.proofs.lemmas.Bool.Decides.{nat_tests}
 use Rattle.std.proofs.lemmas.List.{get_or-take, get_or-drop, take_more}
 use Rattle.std.proofs.Math.Seq.{take-add}
 use Rattle.asp_base.specs.Places.{HasNone, IsFirstPlace}
-use Rattle.message_framing.specs.declared.head_end.Phase.{Phase}
-use Rattle.message_framing.specs.declared.head_end.Phase.TheVariants.{Blank, Line, Feed}
+use Rattle.message_framing.specs.declared.head.Phase.{Phase}
+use Rattle.message_framing.specs.declared.head.Phase.TheVariants.{Blank, Line, Feed}
 use Rattle.message_framing.specs.HeadEnd.{after, seen}
 use Rattle.message_framing.proofs.EndLemmas.{seen-more, seen-one}
 use Rattle.message_framing.proofs.SectionLemmas.{one-line}

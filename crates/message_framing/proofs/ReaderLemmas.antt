@@ -3,9 +3,9 @@ use Rattle.std.proofs.Common.{◌≡◌, ℕ, ◌*◌, Bool, true, false, IsTrue
 use Rattle.std.proofs.lemmas.List.{take-append-le, length-take-le}
 use Rattle.asp_messages.specs.Head.{most_head}
 use Rattle.asp_messages.specs.Stream.{HasNoMessage, IsHopeless}
-use Rattle.message_framing.specs.declared.head_end.Phase.{Phase}
-use Rattle.message_framing.specs.declared.head_end.Phase.TheVariants.{Blank}
-use Rattle.message_framing.specs.declared.message_kind.Begun.{Begun}
+use Rattle.message_framing.specs.declared.head.Phase.{Phase}
+use Rattle.message_framing.specs.declared.head.Phase.TheVariants.{Blank}
+use Rattle.message_framing.specs.declared.message_reader.Begun.{Begun}
 use Rattle.message_framing.specs.declared.message_reader.Found.{Found}
 use Rattle.message_framing.specs.declared.message_reader.Found.TheVariants as founds
 use Rattle.message_framing.specs.declared.message_reader.State.{State}

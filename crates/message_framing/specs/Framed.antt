@@ -2,7 +2,7 @@
 use Rattle.std.specs.Prelude.{◌≡◌, ℕ, ◌+◌, ◌*◌, ◌≤◌, List, [], ◌++◌, length, take, min, Bool, true, false, IsTrue, IsFalse, ⊤, ◌⊎◌}
 use Rattle.asp_messages.specs.Head.{most_head}
 use Rattle.asp_messages.specs.Stream.{HasNoMessage, IsHopeless}
-use Rattle.message_framing.specs.declared.message_kind.Begun.{Begun}
+use Rattle.message_framing.specs.declared.message_reader.Begun.{Begun}
 use Rattle.message_framing.specs.declared.message_reader.Found.{Found}
 use Rattle.message_framing.specs.declared.message_reader.Found.TheVariants as founds
 use Rattle.message_framing.specs.declared.message_reader.State.{State}

@@ -2,8 +2,8 @@
 -- nor line feed. An empty line is a line feed right after a line feed, or after a line feed and a
 -- carriage return (RFC 7230, section 3).
 use Rattle.std.specs.Prelude.{◌≡◌, ℕ, List, [], ◌∷◌, ◌++◌, Option, Some, None, ◌==◌, ◌||◌, if◌then◌else◌}
-use Rattle.message_framing.specs.declared.head_end.Phase.{Phase}
-use Rattle.message_framing.specs.declared.head_end.Phase.TheVariants.{Blank, Line, Feed, Return}
+use Rattle.message_framing.specs.declared.head.Phase.{Phase}
+use Rattle.message_framing.specs.declared.head.Phase.TheVariants.{Blank, Line, Feed, Return}
 
 -- one byte more: none where the head ends with it
 abbrev pub after : Phase → ℕ → Option Phase

@@ -1,10 +1,10 @@
 -- What a look for the end of a head finds.
 use Rattle.std.specs.Prelude.{◌≡◌, ℕ, ◌<◌, ◌≤◌, ◌+◌, min, List, length, take, Some}
 use Rattle.asp_messages.specs.Head.{most_head}
-use Rattle.message_framing.specs.declared.head_end.HeadSearch.{HeadSearch}
-use Rattle.message_framing.specs.declared.head_end.HeadSearch.TheVariants.{Ended, Open}
-use Rattle.message_framing.specs.declared.head_end.Phase.{Phase}
-use Rattle.message_framing.specs.declared.head_end.Phase.TheVariants.{Blank}
+use Rattle.message_framing.specs.declared.head.HeadSearch.{HeadSearch}
+use Rattle.message_framing.specs.declared.head.HeadSearch.TheVariants.{Ended, Open}
+use Rattle.message_framing.specs.declared.head.Phase.{Phase}
+use Rattle.message_framing.specs.declared.head.Phase.TheVariants.{Blank}
 use Rattle.message_framing.specs.HeadEnd.{seen, EndsHead}
 
 -- The first n of the bytes were looked at, and a head doesn't end in them.

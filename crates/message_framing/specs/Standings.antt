@@ -1,7 +1,7 @@
 -- How often a field stands, as the code keeps it.
 use Rattle.std.specs.Prelude.{ℕ, List}
-use Rattle.message_framing.specs.declared.fields.FieldOccurrence.{FieldOccurrence}
-use Rattle.message_framing.specs.declared.fields.FieldOccurrence.TheVariants.{Absent, One, Twice}
+use Rattle.message_framing.specs.declared.head.FieldOccurrence.{FieldOccurrence}
+use Rattle.message_framing.specs.declared.head.FieldOccurrence.TheVariants.{Absent, One, Twice}
 use Rattle.asp_messages.specs.Fields as fields
 
 -- how often the field stands

@@ -10,7 +10,7 @@ use Rattle.load_generator.specs.LoadRun.{IsLoad}
 use Rattle.script_runner.specs.Drive as drive
 use Rattle.session_id.specs.Identifiers.{text_of}
 use Rattle.session_machine.specs.declared.entry.Entry.{Entry}
-use Rattle.session_machine.specs.declared.profile.Profile.{Profile}
+use Rattle.session_machine.specs.declared.item.Profile.{Profile}
 use Rattle.stream_core.specs.Whole.{IsWholeInput}
 use Rattle.command_loop.specs.Flow.{Flow}
 use Rattle.pipe_command.specs.declared.pipe.Pipe.{Pipe}

@@ -16,8 +16,8 @@ use Rattle.asp_messages.specs.Fields.{Field, Occurrence, absent, one, twice, onc
 use Rattle.asp_messages.specs.Head.{IsReplyHead, most_head}
 use Rattle.asp_messages.specs.ReplySpelling.{StreamAnswer, reply, strange, answer_spelled, reply_of, ok_reply, done_reply, found_reply, locked_reply, plain_reply, strange_unless, minutes_field, action_flags_field, holder_field, age_field, since_field, SpellsReply}
 use Rattle.asp_messages.specs.Stream.{HasNoMessage, IsHopeless, IsWaiting}
-use Rattle.message_framing.specs.declared.head_end.Phase.{Phase}
-use Rattle.message_framing.specs.declared.head_end.Phase.TheVariants.{Blank, Line, Feed}
+use Rattle.message_framing.specs.declared.head.Phase.{Phase}
+use Rattle.message_framing.specs.declared.head.Phase.TheVariants.{Blank, Line, Feed}
 use Rattle.message_framing.specs.HeadEnd.{seen, EndsHead}
 use Rattle.message_framing.specs.Framed.{Framed, TakesFramed}
 use Rattle.message_framing.specs.ReaderState.{ReaderState, CountedReader, TakesMessage}

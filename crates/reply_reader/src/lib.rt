@@ -2,7 +2,6 @@
 //! cut.
 #![tactic(auto)]
 
-mod read_reply;
 mod reply_kind;
 mod reply_reader;
 

@@ -19,8 +19,8 @@ use Rattle.asp_messages.specs.Fields.{Field, Occurrence, absent, one, twice, onc
 use Rattle.asp_messages.specs.Head.{IsRequestHead, most_head}
 use Rattle.asp_messages.specs.RequestSpelling.{message_of, ask_of, get_ask, put_ask, delete_ask, release_ask, fit_of, is_key, SpellsRequest}
 use Rattle.asp_messages.specs.Stream.{IsWaiting}
-use Rattle.message_framing.specs.declared.head_end.Phase.{Phase}
-use Rattle.message_framing.specs.declared.head_end.Phase.TheVariants.{Blank, Line, Feed}
+use Rattle.message_framing.specs.declared.head.Phase.{Phase}
+use Rattle.message_framing.specs.declared.head.Phase.TheVariants.{Blank, Line, Feed}
 use Rattle.message_framing.specs.HeadEnd.{seen, EndsHead}
 use Rattle.message_framing.specs.Framed.{Framed}
 use Rattle.message_framing.proofs.EndLemmas.{none-seen}

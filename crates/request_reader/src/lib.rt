@@ -2,7 +2,6 @@
 //! are cut.
 #![tactic(auto)]
 
-mod read_request;
 mod request_kind;
 
 pub use request_kind::{Next, RequestReader, Requests};

@@ -9,8 +9,8 @@ use Rattle.asp_messages.specs.declared.reply.Reply.TheVariants as replies
 use Rattle.asp_messages.specs.Ranges.{AskFits, ReplyFits, SinceFits}
 use Rattle.session_machine.specs.declared.item.Item.{Item}
 use Rattle.session_machine.specs.declared.item.Hold.{Hold}
-use Rattle.session_machine.specs.declared.profile.Profile.{Profile}
-use Rattle.session_machine.specs.declared.profile.Profile.TheVariants.{One, Two, Three}
+use Rattle.session_machine.specs.declared.item.Profile.{Profile}
+use Rattle.session_machine.specs.declared.item.Profile.TheVariants.{One, Two, Three}
 use Rattle.session_machine.specs.Liveness.{ItemFits, seen, is_live, age}
 use Rattle.session_machine.specs.Machine.{Effect, on_absent, on_free, on_held, on_there, on_seen, effect, Circumstances, Step}
 use Rattle.session_machine.specs.Profiles.{end_of, told_since}

@@ -8,7 +8,7 @@ use Rattle.asp_messages.specs.declared.reply.Reply.{Reply}
 use Rattle.asp_messages.specs.declared.reply.Reply.TheVariants.{Found, Done, Locked, Missing, KeeperFault, NoMemory, CookiesOut}
 use Rattle.session_machine.specs.declared.item.Item.{Item}
 use Rattle.session_machine.specs.declared.item.Hold.{Hold}
-use Rattle.session_machine.specs.declared.profile.Profile.{Profile}
+use Rattle.session_machine.specs.declared.item.Profile.{Profile}
 use Rattle.session_machine.specs.Liveness.{seen, age}
 use Rattle.session_machine.specs.Profiles.{end_of, told_since}
 

@@ -2,8 +2,8 @@
 -- is told of a lock that is in the way. Moments are milliseconds.
 use Rattle.std.specs.Prelude.{ℕ, ◌+◌, ◌-◌, ◌^◌, Option, Some, None}
 use Rattle.session_machine.specs.declared.item.Hold.{Hold}
-use Rattle.session_machine.specs.declared.profile.Profile.{Profile}
-use Rattle.session_machine.specs.declared.profile.Profile.TheVariants.{One, Two, Three}
+use Rattle.session_machine.specs.declared.item.Profile.{Profile}
+use Rattle.session_machine.specs.declared.item.Profile.TheVariants.{One, Two, Three}
 
 -- the profile that is served now
 abbrev pub newest : Profile

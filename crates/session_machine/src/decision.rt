@@ -1,13 +1,15 @@
-//! The session machine's decision on one request.
-ghost use Rattle.std.specs.Prelude.{◌≡◌, ◌<◌, ◌≤◌, ◌^◌, Option, Some, None, IfSome, option_copied};
+//! What a request does with an item: the verdict, the reply that it becomes, and the content behind
+//! a change. No content is copied.
+ghost use Rattle.std.specs.Prelude.{◌≡◌, ◌<◌, ◌≤◌, ◌^◌, Option, Some, None, IfSome, option_copied, if◌then◌else◌, IfOk};
 ghost use Rattle.session_machine.specs.declared.item.Item.{Item};
 ghost use Rattle.session_machine.specs.Liveness.{ItemFits};
 ghost use Rattle.session_machine.specs.Machine.{effect, on_absent, on_free, on_held};
-ghost use Rattle.session_machine.specs.Verdicts.{effect_of};
+ghost use Rattle.session_machine.specs.Verdicts.{effect_of, reply_of, body_asked, body_there};
 
-use crate::item::{Hold, Item, age, live};
-use crate::profile::{Profile, end_of, told_since};
-use asp_messages::{Ask, Request};
+use crate::item::{Hold, Item, Profile, age, end_of, live, told_since};
+use asp_base::{Bytes, NoMemory};
+use asp_messages::{Ask, Reply, Request, named};
+use std::alloc::Global;
 
 /// The kind of a reply. `Found` has the content and the minutes of the item as it stood.
 #[derive(Clone, Copy, Debug, PartialEq, Eq)]
@@ -326,5 +328,49 @@ pub fn decide(
                 Some(hold) => on_held(profile, item, hold, &request.ask, t),
             }
         }
+    }
+}
+
+/// The reply of this kind. `Found` has the content of the item in common with it.
+pub fn reply_of(kind: Kind, item: Option<&Item>) -> Result<Reply, NoMemory>
+    ensures { IfOk result (λ reply. reply ≡ reply_of kind (option_copied item.entry)) }
+{
+    match kind {
+        Kind::Found { cookie, first } => match item {
+            Some(item) => Ok(Reply::Found {
+                body: item.body.share()?,
+                minutes: item.minutes,
+                cookie: named(cookie),
+                first,
+            }),
+            None => Ok(Reply::Bad),
+        },
+        Kind::Done => Ok(Reply::Done),
+        Kind::Locked { cookie, age, since } => Ok(Reply::Locked { cookie, age, since }),
+        Kind::Missing => Ok(Reply::Missing),
+        Kind::CookiesOut => Ok(Reply::CookiesOut),
+    }
+}
+
+/// The content that the ask brings: that of a write, and else none.
+pub fn body_asked(alloc: Global, ask: Ask) -> Bytes
+    ensures { result ≡ body_asked ask }
+{
+    match ask {
+        Ask::Write { body, .. } => body,
+        _ => Bytes::adopt(Vec::new(alloc)),
+    }
+}
+
+/// The content behind a change: what the ask brings, or else what is there.
+pub fn body_changed(alloc: Global, of_request: bool, ask: Ask, item: Option<Item>) -> Bytes
+    ensures { result ≡ (if of_request then body_asked ask else body_there item) }
+{
+    if of_request {
+        return body_asked(alloc, ask);
+    }
+    match item {
+        Some(item) => item.body,
+        None => Bytes::adopt(Vec::new(alloc)),
     }
 }

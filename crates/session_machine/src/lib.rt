@@ -2,14 +2,10 @@
 //! entries that a history is made of.
 #![tactic(auto)]
 
-mod content;
 mod decision;
 mod entry;
 mod item;
-mod profile;
 
-pub use content::{body_asked, body_changed, reply_of};
-pub use decision::{Change, Kind, Verdict, decide};
+pub use decision::{Change, Kind, Verdict, body_asked, body_changed, decide, reply_of};
 pub use entry::{Deed, Entry};
-pub use item::{Hold, Item, age, expiry, live};
-pub use profile::{Profile, end_of};
+pub use item::{Hold, Item, Profile, age, end_of, expiry, live};

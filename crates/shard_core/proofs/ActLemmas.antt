@@ -21,8 +21,8 @@ use Rattle.session_machine.specs.History.{DrawFits, IsFreshDraw, has_risen}
 use Rattle.session_machine.specs.Profiles.{newest}
 use Rattle.session_machine.proofs.MachineLemmas.{EffectFits}
 use Rattle.session_machine.specs.Verdicts.{effect_of, reply_of, changed}
-use Rattle.keeper.specs.declared.keep_error.KeepError.{KeepError}
-use Rattle.keeper.specs.declared.keep_error.KeepError.TheVariants as errors
+use Rattle.keeper.specs.declared.keeping.KeepError.{KeepError}
+use Rattle.keeper.specs.declared.keeping.KeepError.TheVariants as errors
 use Rattle.keeper.specs.Due.{TellsDue}
 use Rattle.keeper.specs.Items.{StillTells, TellsItem, TellsSets}
 use Rattle.shard_core.specs.Acting.{IsOutOfCookies, TakesStep, TellsStep, refusal_of}

@@ -1,7 +1,7 @@
 -- What a keeper answers where the database refuses, or a row says nothing that it can use.
 use Rattle.std.specs.Prelude.{◌≡◌, Option, Some, None, Result, Ok, Err, IfErr}
-use Rattle.keeper.specs.declared.keep_error.KeepError.{KeepError}
-use Rattle.keeper.specs.declared.keep_error.KeepError.TheVariants.{Fault, NoMemory}
+use Rattle.keeper.specs.declared.keeping.KeepError.{KeepError}
+use Rattle.keeper.specs.declared.keeping.KeepError.TheVariants.{Fault, NoMemory}
 use Rattle.sqlite.specs.declared.error.Error.{Error}
 use Rattle.sqlite.specs.declared.error.Error.TheVariants.{SqliteFailure, QueryReturnedNoRows}
 use Rattle.sqlite.specs.declared.error.ErrorCode.TheVariants.{OutOfMemory}

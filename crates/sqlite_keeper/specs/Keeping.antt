@@ -2,8 +2,8 @@
 use Rattle.std.specs.Prelude.{ℕ, ◌-◌, ◌^◌, min, refl, Result, Ok, Err}
 use Rattle.std.specs.Coded.{Coded, code_by, coded×, coded_ℕ}
 use Rattle.asp_base.specs.InMemory.{counted_once_more}
-use Rattle.keeper.specs.declared.keep_error.KeepError.{KeepError}
-use Rattle.keeper.specs.declared.keep_error.KeepError.TheVariants.{Fault, NoMemory}
+use Rattle.keeper.specs.declared.keeping.KeepError.{KeepError}
+use Rattle.keeper.specs.declared.keeping.KeepError.TheVariants.{Fault, NoMemory}
 
 -- A keeper over a connection, and its count of faults.
 pub record OverDatabase (C : Type 0) : Type 0 where

@@ -6,7 +6,7 @@ ghost use Rattle.state_store.specs.Shards.{shard_of_key};
 use crate::new_shards::{NewShards, open_shards};
 use crate::store_desk::StoreDesk;
 use crate::sweep::sweep_shard;
-use crate::{Note, Pass, Roll, SweepCount, SweepEnd};
+use crate::{Note, SweepCount, SweepEnd};
 use asp_base::{Gate, NoMemory};
 use asp_messages::{Reply, Request};
 use cookie_source::{CookieSource, FreshCookies};
@@ -14,7 +14,7 @@ use keeper::Keeper;
 use std::alloc::Global;
 use std::snapshot::Snapshot;
 use std::sync::{Arc, Wait};
-use turnstile::{Stands, TurnTerms, Turnstile};
+use turnstile::{Stands, TurnPass, TurnRoll, TurnTerms, Turnstile};
 
 /// Sessions that threads share, in 1 to 64 shards. Each shard is behind a turnstile of its own.
 #[derive(Drop)]
@@ -274,5 +274,38 @@ impl<K: Keeper + Drop> Store<K> {
             let at = rolls.len();
             self.turnstiles[at].seal(rt, part, &mut pass.passes[at]);
         }
+    }
+}
+
+/// The right to make passes to a store.
+#[derive(Drop)]
+pub struct Roll<K: Keeper>
+where
+    StoreDesk<K>: Stands,
+{
+    pub(crate) rolls: Vec<TurnRoll<StoreDesk<K>>>,
+    pub(crate) made: u64,
+}
+
+/// The right to ask a store, under one caller number in every shard.
+///
+/// Contracts see the number and, for each shard, what the pass knows of it.
+#[derive(Drop)]
+pub struct Pass<K: Keeper>
+where
+    StoreDesk<K>: Stands,
+{
+    pub(crate) passes: Vec<TurnPass<StoreDesk<K>>>,
+    pub(crate) caller: u64,
+}
+
+impl<K: Keeper> Pass<K> {
+    ghost use Rattle.state_store.specs.Passes.{caller_of};
+
+    /// The caller number.
+    pub fn caller(&self) -> u64
+        ensures { result ≡ caller_of self.now }
+    {
+        self.caller
     }
 }

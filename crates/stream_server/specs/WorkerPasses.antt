@@ -4,7 +4,7 @@ use Rattle.session_machine.specs.declared.entry.Entry.{Entry}
 use Rattle.keeper.specs.declared.keeping.Keeper.{Ghosts as KeeperGhosts}
 use Rattle.turnstile.specs.declared.stands.Stands.{Ghosts}
 use Rattle.state_store.specs.declared.store_desk.StoreDesk.{StoreDesk}
-use Rattle.state_store.specs.declared.pass.Pass.{Pass}
+use Rattle.state_store.specs.declared.store.Pass.{Pass}
 use Rattle.state_store.specs.declared.store.Store.{Store}
 use Rattle.state_store.specs.Passes.{caller_of, view_in, IsPassOf}
 use Rattle.stream_server.specs.Meeting.{MetUpTo, HasMet}

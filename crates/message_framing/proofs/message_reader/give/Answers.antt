@@ -1,6 +1,6 @@
 use Rattle.std.proofs.Common.{◌≡◌, inr, sym, ap, subst, ◌∙◌, take, drop, arith, ◌≤◌, Some, take-append-drop, length-drop, length}
 use Rattle.std.proofs.lemmas.List.{take_all}
-use Rattle.message_framing.specs.declared.head_end.Phase.TheVariants.{Blank}
+use Rattle.message_framing.specs.declared.head.Phase.TheVariants.{Blank}
 use Rattle.message_framing.specs.Framed.{GivesMessage}
 use Rattle.message_framing.specs.HeadEnd.{seen}
 use Rattle.message_framing.proofs.ReaderLemmas.{unseen-none, unseen-hopeless, short-none, begun-same, gives}

@@ -1,4 +1,4 @@
-use Rattle.session_machine.specs.declared.profile.Profile.TheVariants.{One, Two}
+use Rattle.session_machine.specs.declared.item.Profile.TheVariants.{One, Two}
 use Rattle.journal_text.proofs.ContentLemmas.{is_plain_tail, no_plain_tail}
 use Rattle.journal_text.proofs.reading.ask_and_reply.read_undated.Goals as goal
 
