@@ -8,7 +8,7 @@ use Rattle.asp_messages.specs.declared.reply.Reply.TheVariants.{Found, Done, Loc
 use Rattle.asp_messages.specs.Fields.{Field, Occurrence, absent, one, twice, once, at_least, body_length, most_body, most_cookie, most_minutes, number_needed, lock_cookie_field, named, response_fields}
 use Rattle.asp_messages.specs.Head.{most_head, IsReplyHead}
 use Rattle.asp_messages.specs.Ranges.{ReplyFits, SinceFits}
-use Rattle.asp_messages.specs.ReplySpelling.{StreamAnswer, reply, SpellsReply, answer_spelled, reply_of, strange_unless, found_reply, done_reply, ok_reply, locked_reply, plain_reply, minutes_field, action_flags_field, holder_field, age_field, most_age, since_field, most_since}
+use Rattle.asp_messages.specs.ReplySpelling.{StreamAnswer, reply, SpellsReply, answer_spelled, reply_from, strange_unless, found_reply, done_reply, ok_reply, locked_reply, plain_reply, minutes_field, action_flags_field, holder_field, age_field, most_age, since_field, most_since}
 use Rattle.asp_messages.specs.Stream.{HasNoMessage, IsWaiting}
 use Rattle.asp_messages.proofs.FramingLemmas.{body_length-le, number_or-in, number_needed-le, split_alike, waiting-short}
 use Rattle.asp_messages.proofs.RequestLemmas.{named-fits, lock_cookie-le}
@@ -127,10 +127,10 @@ minutes-in (one value) n e = number_or-in 1 1 most_minutes (one value) n (omega 
     e
 minutes-in twice n e = cc
 
-reply_of-fits : (status : ℕ) (fields : List Field) (body : List ℕ) (r : Reply)
-    → length body ≤ most_body → reply_of status fields body ≡ Some r → ReplyFits r
-unfolding reply_of
-reply_of-fits status fields body r short e =
+reply_from-fits : (status : ℕ) (fields : List Field) (body : List ℕ) (r : Reply)
+    → length body ≤ most_body → reply_from status fields body ≡ Some r → ReplyFits r
+unfolding reply_from
+reply_from-fits status fields body r short e =
     chosen (status == 200) _ _ (Some r) (ReplyFits r)
     (ok_reply-fits (once fields (codes "Timeout")) body
     (found_reply body (minutes_field fields) (lock_cookie_field fields)
@@ -154,6 +154,7 @@ by_answer status None r fits e = cc
 -- a reply that is spelled is in range
 pub spelled_reply-fits : (bytes : List ℕ) (r : Reply) → SpellsReply bytes (reply r) → ReplyFits r
 spelled_reply-fits bytes r s =
-    by_answer (status_code s.head) (reply_of (status_code s.head) (response_fields s.head) s.body) r
-    (λ x is. reply_of-fits (status_code s.head) (response_fields s.head) s.body x
+    by_answer (status_code s.head) (reply_from (status_code s.head) (response_fields s.head) s.body)
+    r
+    (λ x is. reply_from-fits (status_code s.head) (response_fields s.head) s.body x
     (body_length-le _ _ s.framed.announced) is) (sym s.answer_is)

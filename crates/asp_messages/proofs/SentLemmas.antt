@@ -14,7 +14,7 @@ use Rattle.asp_messages.specs.declared.request.Message.{Message}
 use Rattle.asp_messages.specs.Fields.{Field, body_length}
 use Rattle.asp_messages.specs.Head as heads
 use Rattle.asp_messages.specs.ReplySpelling.{StreamAnswer, SpellsReply, answer_spelled}
-use Rattle.asp_messages.specs.ReplyText.{line}
+use Rattle.asp_messages.specs.ReplyText.{http_line}
 use Rattle.asp_messages.specs.RequestSpelling.{SpellsRequest, message_of}
 use Rattle.asp_messages.proofs.DecimalLemmas.{decimal-short, decimal-trimmed, decimal-value}
 
@@ -26,7 +26,7 @@ sent f = record { name = f.0; raw = 32 ∷ f.1; end = crlf }
 
 -- the bytes of the line
 abbrev pub field_line : Field → List ℕ
-field_line f = line (f.0 ++ codes ": " ++ f.1)
+field_line f = http_line (f.0 ++ codes ": " ++ f.1)
 
 abbrev pub field_lines : List Field → List ℕ
 field_lines fields = flat_map field_line fields
@@ -113,8 +113,8 @@ sent_reply digits phrase fields = record {
 }
 
 abbrev pub reply_lines : List ℕ → List ℕ → List Field → List ℕ
-reply_lines digits phrase fields = line (codes "HTTP/1.1 " ++ digits ++ codes " " ++ phrase)
-    ++ field_lines fields ++ line []
+reply_lines digits phrase fields = http_line (codes "HTTP/1.1 " ++ digits ++ codes " " ++ phrase)
+    ++ field_lines fields ++ http_line []
 
 reply_tail : (d p f : List ℕ) → d ++ (32 ∷ p) ++ (13 ∷ 10 ∷ []) ++ (f ++ (13 ∷ 10 ∷ [])) ≡ d
     ++ (32 ∷ []) ++ p ++ (13 ∷ 10 ∷ []) ++ f ++ (13 ∷ 10 ∷ [])
@@ -137,8 +137,9 @@ reply_lines-short digits phrase fields three short are few =
     omega (
       arith,
       lines,
-      length-append (line (first ++ digits ++ codes " " ++ phrase) ++ field_lines fields) (line []),
-      length-append (line (first ++ digits ++ codes " " ++ phrase)) (field_lines fields),
+      length-append (http_line (first ++ digits ++ codes " " ++ phrase) ++ field_lines fields)
+          (http_line []),
+      length-append (http_line (first ++ digits ++ codes " " ++ phrase)) (field_lines fields),
       length-append (first ++ digits ++ codes " " ++ phrase) (codes "\r\n"),
       length-append (first ++ digits ++ codes " ") phrase,
       length-append (first ++ digits) (codes " "),
@@ -191,8 +192,8 @@ sent_request verb target fields = record {
 }
 
 abbrev pub request_lines : List ℕ → List ℕ → List Field → List ℕ
-request_lines verb target fields = line (verb ++ codes " " ++ target ++ codes " HTTP/1.1")
-    ++ field_lines fields ++ line []
+request_lines verb target fields = http_line (verb ++ codes " " ++ target ++ codes " HTTP/1.1")
+    ++ field_lines fields ++ http_line []
 
 request_tail : (m t v f : List ℕ)
     → m ++ (32 ∷ t) ++ (32 ∷ v) ++ (13 ∷ 10 ∷ []) ++ (f ++ (13 ∷ 10 ∷ [])) ≡ m ++ (32 ∷ []) ++ t
@@ -215,9 +216,11 @@ request_lines-short verb target fields brief short are few =
     omega (
       arith,
       lines,
-      length-append (line (verb ++ codes " " ++ target ++ codes " HTTP/1.1") ++ field_lines fields)
-          (line []),
-      length-append (line (verb ++ codes " " ++ target ++ codes " HTTP/1.1")) (field_lines fields),
+      length-append
+          (http_line (verb ++ codes " " ++ target ++ codes " HTTP/1.1") ++ field_lines fields)
+          (http_line []),
+      length-append (http_line (verb ++ codes " " ++ target ++ codes " HTTP/1.1"))
+          (field_lines fields),
       length-append (verb ++ codes " " ++ target ++ codes " HTTP/1.1") (codes "\r\n"),
       length-append (verb ++ codes " " ++ target) (codes " HTTP/1.1"),
       length-append (verb ++ codes " ") target,

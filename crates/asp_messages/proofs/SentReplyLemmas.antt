@@ -11,8 +11,8 @@ use Rattle.asp_messages.specs.declared.reply.Reply.{Reply}
 use Rattle.asp_messages.specs.declared.reply.Reply.TheVariants.{Found, Done, Locked, Missing, Bad, KeeperFault, NoMemory, CookiesOut, PlacesOut}
 use Rattle.asp_messages.specs.Fields.{Field, one, at_least, number_or, number_needed, named, body_length, most_body, most_minutes, most_cookie}
 use Rattle.asp_messages.specs.Ranges.{ReplyFits, SinceFits}
-use Rattle.asp_messages.specs.ReplySpelling.{reply, SpellsReply, strange_unless, reply_of, found_reply, locked_reply, most_age, most_since}
-use Rattle.asp_messages.specs.ReplyText.{line, ending, head_text, body_of, reply_text}
+use Rattle.asp_messages.specs.ReplySpelling.{reply, SpellsReply, strange_unless, reply_from, found_reply, locked_reply, most_age, most_since}
+use Rattle.asp_messages.specs.ReplyText.{http_line, ending, head_text, body_of, reply_text}
 use Rattle.asp_messages.proofs.DecimalLemmas.{number_or-decimal, number_needed-decimal, minutes-decimal, named-some}
 use Rattle.asp_messages.proofs.SentFieldLemmas.{timeout_pair, timeout_sent, lock_pair, lock_sent, age_pair, age_sent, date_pair, date_sent, length_pair, length_sent, first_pair, first_sent, announced}
 use Rattle.asp_messages.proofs.SentLemmas.{IsSent, AreSent, field_line, reply_lines, reply_sent}
@@ -34,7 +34,7 @@ by_lines : (r : Reply) (digits phrase : List ℕ) (fields : List Field)
     → list_all is_ascii_digit digits ≡ true → length digits ≡ 3
     → list_all is_value_byte phrase ≡ true → length phrase ≤ 40
     → AreSent fields → length fields ≤ 5 → body_length fields ≡ Some (length (body_of r))
-    → reply_of (digits_value 10 digits) fields (body_of r) ≡ Some r
+    → reply_from (digits_value 10 digits) fields (body_of r) ≡ Some r
     → SpellsReply (reply_text r) (reply r)
 by_lines r digits phrase fields text all three pass short are few announced is =
     subst (λ t. SpellsReply (t ++ body_of r) (reply r)) (sym text)
@@ -43,16 +43,16 @@ by_lines r digits phrase fields text all three pass short are few announced is =
 
 -- a status that says all by itself
 plain : (r : Reply) (digits phrase : List ℕ)
-    → head_text r ≡ line (codes "HTTP/1.1 " ++ digits ++ codes " " ++ phrase) ++ [] ++ ending 0
+    → head_text r ≡ http_line (codes "HTTP/1.1 " ++ digits ++ codes " " ++ phrase) ++ [] ++ ending 0
     → list_all is_ascii_digit digits ≡ true → length digits ≡ 3
     → list_all is_value_byte phrase ≡ true → length phrase ≤ 40
-    → body_of r ≡ [] → reply_of (digits_value 10 digits) (length_pair 0 ∷ []) [] ≡ Some r
+    → body_of r ≡ [] → reply_from (digits_value 10 digits) (length_pair 0 ∷ []) [] ≡ Some r
     → SpellsReply (reply_text r) (reply r)
 unfolding is_same_name number_of
 plain r digits phrase text all three pass short no_body is =
     by_lines r digits phrase (length_pair 0 ∷ [])
-    (text ∙ behind_one (line (codes "HTTP/1.1 " ++ digits ++ codes " " ++ phrase))
-    (field_line (length_pair 0)) (line []))
+    (text ∙ behind_one (http_line (codes "HTTP/1.1 " ++ digits ++ codes " " ++ phrase))
+    (field_line (length_pair 0)) (http_line []))
     all three pass short (length_sent 0 (omega arith), tt) (omega arith)
     (rw no_body (announced 0 (omega arith))) (rw no_body is)
 
@@ -62,7 +62,7 @@ found_is : (body : List ℕ) (minutes cookie flag : ℕ) (m c f : Option ℕ) �
 found_is body minutes cookie flag m c f p q r = rw (p, q, r) refl
 
 ok_line : List ℕ
-ok_line = line (codes "HTTP/1.1 200 OK")
+ok_line = http_line (codes "HTTP/1.1 200 OK")
 
 -- 200 with content
 module _ (body : List ℕ) (minutes : ℕ) (short : length body ≤ most_body) (some : 0 < minutes)
@@ -78,12 +78,12 @@ module _ (body : List ℕ) (minutes : ℕ) (short : length body ≤ most_body) (
 
   found_free : (first : Bool) → SpellsReply (reply_text (Found body minutes None first))
       (reply (Found body minutes None first))
-  unfolding head_text reply_of is_same_name number_of ok_line
+  unfolding head_text reply_from is_same_name number_of ok_line
   found_free false =
       by_lines (Found body minutes None false) (codes "200") (codes "OK")
       (timeout_pair minutes ∷ length_pair (length body) ∷ [])
       (behind_four ok_line (field_line (timeout_pair minutes)) [] []
-      (field_line (length_pair (length body))) (line []))
+      (field_line (length_pair (length body))) (http_line []))
       refl refl refl (omega arith) (timeout_first, length_last) (omega arith)
       (announced (length body) short)
       (found_is body minutes 0 0 _ _ _ minutes_are refl refl)
@@ -91,7 +91,7 @@ module _ (body : List ℕ) (minutes : ℕ) (short : length body ≤ most_body) (
       by_lines (Found body minutes None true) (codes "200") (codes "OK")
       (timeout_pair minutes ∷ first_pair ∷ length_pair (length body) ∷ [])
       (behind_four ok_line (field_line (timeout_pair minutes)) [] (field_line first_pair)
-      (field_line (length_pair (length body))) (line []))
+      (field_line (length_pair (length body))) (http_line []))
       refl refl refl (omega arith) (timeout_first, (first_sent, length_last)) (omega arith)
       (announced (length body) short)
       (found_is body minutes 0 1 _ _ _ minutes_are refl refl)
@@ -109,12 +109,12 @@ module _ (body : List ℕ) (minutes : ℕ) (short : length body ≤ most_body) (
 
     found_held : (first : Bool) → SpellsReply (reply_text (Found body minutes (Some cookie) first))
         (reply (Found body minutes (Some cookie) first))
-    unfolding head_text reply_of is_same_name number_of ok_line
+    unfolding head_text reply_from is_same_name number_of ok_line
     found_held false =
         by_lines (Found body minutes (Some cookie) false) (codes "200") (codes "OK")
         (timeout_pair minutes ∷ lock_pair cookie ∷ length_pair (length body) ∷ [])
         (behind_four ok_line (field_line (timeout_pair minutes)) (field_line (lock_pair cookie)) []
-        (field_line (length_pair (length body))) (line []))
+        (field_line (length_pair (length body))) (http_line []))
         refl refl refl (omega arith) (timeout_first, (lock_next, length_last)) (omega arith)
         (announced (length body) short)
         (found_is body minutes cookie 0 _ _ _ minutes_are cookie_is refl ∙ same false)
@@ -122,7 +122,7 @@ module _ (body : List ℕ) (minutes : ℕ) (short : length body ≤ most_body) (
         by_lines (Found body minutes (Some cookie) true) (codes "200") (codes "OK")
         (timeout_pair minutes ∷ lock_pair cookie ∷ first_pair ∷ length_pair (length body) ∷ [])
         (behind_four ok_line (field_line (timeout_pair minutes)) (field_line (lock_pair cookie))
-        (field_line first_pair) (field_line (length_pair (length body))) (line []))
+        (field_line first_pair) (field_line (length_pair (length body))) (http_line []))
         refl refl refl (omega arith) (timeout_first, (lock_next, (first_sent, length_last)))
         (omega arith) (announced (length body) short)
         (found_is body minutes cookie 1 _ _ _ minutes_are cookie_is refl ∙ same true)
@@ -132,7 +132,7 @@ locked_is : (cookie age : ℕ) (since : Option ℕ) (c a s : Option ℕ) → c �
 locked_is cookie age since c a s p q r = rw (p, q, r) refl
 
 locked_line : List ℕ
-locked_line = line (codes "HTTP/1.1 423 Locked")
+locked_line = http_line (codes "HTTP/1.1 423 Locked")
 
 -- 423
 module _ (cookie age : ℕ) (range : cookie < 2 ^ 63) (young : age ≤ most_age) where
@@ -153,12 +153,12 @@ module _ (cookie age : ℕ) (range : cookie < 2 ^ 63) (young : age ≤ most_age)
 
   locked : (since : Option ℕ) → SinceFits since
       → SpellsReply (reply_text (Locked cookie age since)) (reply (Locked cookie age since))
-  unfolding head_text reply_of is_same_name number_of locked_line
+  unfolding head_text reply_from is_same_name number_of locked_line
   locked None early =
       by_lines (Locked cookie age None) (codes "423") (codes "Locked")
       (lock_pair cookie ∷ age_pair age ∷ length_pair 0 ∷ [])
       (behind_four locked_line (field_line (lock_pair cookie)) (field_line (age_pair age)) []
-      (field_line (length_pair 0)) (line []))
+      (field_line (length_pair 0)) (http_line []))
       refl refl refl (omega arith) (lock_first, (age_next, empty_last)) (omega arith)
       (announced 0 (omega arith))
       (locked_is cookie age None _ _ _ held_is age_is refl)
@@ -166,7 +166,7 @@ module _ (cookie age : ℕ) (range : cookie < 2 ^ 63) (young : age ≤ most_age)
       by_lines (Locked cookie age (Some since)) (codes "423") (codes "Locked")
       (lock_pair cookie ∷ age_pair age ∷ date_pair since ∷ length_pair 0 ∷ [])
       (behind_four locked_line (field_line (lock_pair cookie)) (field_line (age_pair age))
-      (field_line (date_pair since)) (field_line (length_pair 0)) (line []))
+      (field_line (date_pair since)) (field_line (length_pair 0)) (http_line []))
       refl refl refl (omega arith)
       (lock_first, (age_next, (date_sent since (omega arith), empty_last))) (omega arith)
       (announced 0 (omega arith))
@@ -174,7 +174,7 @@ module _ (cookie age : ℕ) (range : cookie < 2 ^ 63) (young : age ≤ most_age)
       (number_needed-decimal most_since since (omega arith) early))
 
 pub reply_spelled : (r : Reply) → ReplyFits r → SpellsReply (reply_text r) (reply r)
-unfolding head_text reply_of is_same_name number_of
+unfolding head_text reply_from is_same_name number_of
 reply_spelled (Found body minutes None first) (short, (some, small), cookie) =
     found_free body minutes short some small first
 reply_spelled (Found body minutes (Some c) first) (short, (some, small), (is_named, range)) =

@@ -14,7 +14,7 @@ use Rattle.asp_messages.specs.declared.request.Ask.{Ask}
 use Rattle.asp_messages.specs.declared.request.Ask.TheVariants.{Read, Acquire, Release, Write, Remove, Reset}
 use Rattle.asp_messages.specs.Fields.{Field, one, number_or, named, body_length, most_body, most_minutes, most_cookie}
 use Rattle.asp_messages.specs.Ranges.{RequestFits, AskFits, KeyFits}
-use Rattle.asp_messages.specs.ReplyText.{line}
+use Rattle.asp_messages.specs.ReplyText.{http_line}
 use Rattle.asp_messages.specs.RequestSpelling.{SpellsRequest, message_of, ask_of, is_key, release_ask, put_ask, delete_ask}
 use Rattle.asp_messages.specs.RequestText.{target_text, verb_text, start_lines, ask_fields, content_of, request_text}
 use Rattle.asp_messages.proofs.DecimalLemmas.{number_or-decimal, number_needed-decimal, named-some}
@@ -61,11 +61,11 @@ module _ (key : List ℕ) (fits : KeyFits key) (bytes : All IsByte key) where
   by_lines ask fields text token some brief are few announces is =
       let target = target_text key in
       let size = target_text-short key bytes in
-      let start = line (verb_text ask ++ codes " " ++ target ++ codes " HTTP/1.1") in
-      let same : start_lines (verb_text ask) target ++ ask_fields ask ++ line []
+      let start = http_line (verb_text ask ++ codes " " ++ target ++ codes " HTTP/1.1") in
+      let same : start_lines (verb_text ask) target ++ ask_fields ask ++ http_line []
       ≡ request_lines (verb_text ask) target (host_pair ∷ fields) =
-      ap (λ f. start_lines (verb_text ask) target ++ f ++ line []) text
-      ∙ behind_host start (field_line host_pair) (field_lines fields) (line []) in
+      ap (λ f. start_lines (verb_text ask) target ++ f ++ http_line []) text
+      ∙ behind_host start (field_line host_pair) (field_lines fields) (http_line []) in
       subst (λ t. SpellsRequest (t ++ content_of ask) (Fit (record { key = key; ask = ask })))
       (sym same)
       (request_sent (verb_text ask) target (host_pair ∷ fields) (content_of ask) _ token some brief

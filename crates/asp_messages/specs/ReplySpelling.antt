@@ -79,8 +79,8 @@ plain_reply status =
     else (if status == 508 then Some PlacesOut else None)))))
 
 -- what a status says with these fields and this body
-unfoldable pub reply_of : ℕ → List Field → List ℕ → Option Reply
-reply_of status fields body =
+unfoldable pub reply_from : ℕ → List Field → List ℕ → Option Reply
+reply_from status fields body =
     if status == 200
     then ok_reply (once fields (codes "Timeout")) body
     (found_reply body (minutes_field fields) (lock_cookie_field fields)
@@ -97,7 +97,7 @@ strange_unless status (Some r) = reply r
 
 -- the answer of a head's parts and a body
 abbrev pub answer_spelled : ℕ → List Field → List ℕ → StreamAnswer
-answer_spelled status fields body = strange_unless status (reply_of status fields body)
+answer_spelled status fields body = strange_unless status (reply_from status fields body)
 
 -- The bytes are a response head and the body that it announces, and they say this answer.
 pub record SpellsReply (bytes : List ℕ) (answer : StreamAnswer) : Type 0 where

@@ -4,12 +4,12 @@ use Rattle.asp_messages.specs.declared.reply.Reply.{Reply}
 use Rattle.asp_messages.specs.declared.reply.Reply.TheVariants.{Found, Done, Locked, Missing, Bad, KeeperFault, NoMemory, CookiesOut, PlacesOut}
 
 -- a line of a head, with its end
-abbrev pub line : List ℕ → List ℕ
-line text = text ++ codes "\r\n"
+abbrev pub http_line : List ℕ → List ℕ
+http_line text = text ++ codes "\r\n"
 
 -- a field with a number
 abbrev pub number_line : List ℕ → ℕ → List ℕ
-number_line name n = line (name ++ codes ": " ++ decimal n)
+number_line name n = http_line (name ++ codes ": " ++ decimal n)
 
 -- the line of the cookie that was acquired
 abbrev pub cookie_line : Option ℕ → List ℕ
@@ -18,7 +18,7 @@ cookie_line (Some cookie) = number_line (codes "LockCookie") cookie
 
 -- the line that tells the first reader of an uninitialized item
 abbrev pub first_line : Bool → List ℕ
-first_line first = if first then line (codes "ActionFlags: 1") else []
+first_line first = if first then http_line (codes "ActionFlags: 1") else []
 
 -- the line of the moment of the acquisition, where it is told
 abbrev pub since_line : Option ℕ → List ℕ
@@ -27,19 +27,19 @@ since_line (Some since) = number_line (codes "LockDate") since
 
 -- the lines that end a head: the length of the body, and an empty line
 abbrev pub ending : ℕ → List ℕ
-ending n = number_line (codes "Content-Length") n ++ line []
+ending n = number_line (codes "Content-Length") n ++ http_line []
 
 -- the status line
 abbrev pub status_line : Reply → List ℕ
-status_line (Found body minutes cookie first) = line (codes "HTTP/1.1 200 OK")
-status_line Done = line (codes "HTTP/1.1 200 OK")
-status_line (Locked cookie age since) = line (codes "HTTP/1.1 423 Locked")
-status_line Missing = line (codes "HTTP/1.1 404 Not Found")
-status_line Bad = line (codes "HTTP/1.1 400 Bad Request")
-status_line KeeperFault = line (codes "HTTP/1.1 500 Keeper Fault")
-status_line NoMemory = line (codes "HTTP/1.1 503 No Memory")
-status_line CookiesOut = line (codes "HTTP/1.1 507 Cookies Out")
-status_line PlacesOut = line (codes "HTTP/1.1 508 Places Out")
+status_line (Found body minutes cookie first) = http_line (codes "HTTP/1.1 200 OK")
+status_line Done = http_line (codes "HTTP/1.1 200 OK")
+status_line (Locked cookie age since) = http_line (codes "HTTP/1.1 423 Locked")
+status_line Missing = http_line (codes "HTTP/1.1 404 Not Found")
+status_line Bad = http_line (codes "HTTP/1.1 400 Bad Request")
+status_line KeeperFault = http_line (codes "HTTP/1.1 500 Keeper Fault")
+status_line NoMemory = http_line (codes "HTTP/1.1 503 No Memory")
+status_line CookiesOut = http_line (codes "HTTP/1.1 507 Cookies Out")
+status_line PlacesOut = http_line (codes "HTTP/1.1 508 Places Out")
 
 -- the fields between the status line and the length of the body
 abbrev pub reply_fields : Reply → List ℕ

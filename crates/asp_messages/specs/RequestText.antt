@@ -6,7 +6,7 @@ use Rattle.percent_encoding.specs.Percent.{percent_encode_byte}
 use Rattle.asp_messages.specs.declared.request.Request.{Request}
 use Rattle.asp_messages.specs.declared.request.Ask.{Ask}
 use Rattle.asp_messages.specs.declared.request.Ask.TheVariants.{Read, Acquire, Release, Write, Remove, Reset}
-use Rattle.asp_messages.specs.ReplyText.{line, number_line, cookie_line}
+use Rattle.asp_messages.specs.ReplyText.{http_line, number_line, cookie_line}
 
 -- ---- the target
 
@@ -35,13 +35,13 @@ verb_text Reset = codes "HEAD"
 
 -- the line that makes an item uninitialized
 abbrev pub fresh_line : Bool → List ℕ
-fresh_line fresh = if fresh then line (codes "ExtraFlags: 1") else []
+fresh_line fresh = if fresh then http_line (codes "ExtraFlags: 1") else []
 
 -- the fields behind the host
 abbrev pub ask_fields : Ask → List ℕ
 ask_fields Read = []
-ask_fields Acquire = line (codes "Exclusive: acquire")
-ask_fields (Release cookie) = line (codes "Exclusive: release")
+ask_fields Acquire = http_line (codes "Exclusive: acquire")
+ask_fields (Release cookie) = http_line (codes "Exclusive: release")
     ++ number_line (codes "LockCookie") cookie
 ask_fields (Write body minutes fresh cookie) =
     number_line (codes "Timeout") minutes ++ fresh_line fresh ++ cookie_line cookie
@@ -51,8 +51,8 @@ ask_fields Reset = []
 
 -- the request line and the host
 abbrev pub start_lines : List ℕ → List ℕ → List ℕ
-start_lines verb target = line (verb ++ codes " " ++ target ++ codes " HTTP/1.1")
-    ++ line (codes "Host: state")
+start_lines verb target = http_line (verb ++ codes " " ++ target ++ codes " HTTP/1.1")
+    ++ http_line (codes "Host: state")
 
 -- the content of an ask
 abbrev pub content_of : Ask → List ℕ
@@ -63,4 +63,4 @@ content_of ask = []
 unfoldable pub request_text : Request → List ℕ
 request_text request =
     start_lines (verb_text request.ask) (target_text request.key) ++ ask_fields request.ask
-    ++ line [] ++ content_of request.ask
+    ++ http_line [] ++ content_of request.ask

@@ -4,7 +4,7 @@ ghost use Rattle.std.specs.Prelude.{◌≡◌, ◌++◌, length, codes, decimal,
 ghost use Rattle.hex.specs.Hex.{encode_lower};
 ghost use Rattle.asp_messages.specs.Appending.{Extends};
 ghost use Rattle.asp_messages.specs.PlainSpelling.{◌then◌};
-ghost use Rattle.asp_messages.specs.ReplyText.{line, number_line};
+ghost use Rattle.asp_messages.specs.ReplyText.{http_line, number_line};
 
 use asp_base::NoMemory;
 use itoa::Buffer;
@@ -54,7 +54,7 @@ pub fn push_hex(out: &mut Vec<u8>, bytes: &[u8]) -> Result<(), NoMemory>
 
 /// Appends a line of a head.
 pub fn push_line(out: &mut Vec<u8>, text: &[u8]) -> Result<(), NoMemory>
-    ensures ok { OnOk result (out.new.items ≡ out.old.items ++ line text.now) }
+    ensures ok { OnOk result (out.new.items ≡ out.old.items ++ http_line text.now) }
     ensures err { OnErr result (Extends out.old.items out.new.items) }
 {
     push(out, text)?;

@@ -7,9 +7,9 @@ use Rattle.session_machine.specs.declared.entry.Entry.{Entry}
 use Rattle.session_machine.specs.declared.item.Profile.{Profile}
 use Rattle.journal_text.specs.declared.reading.journal_reader.JournalNext.TheVariants as nexts
 use Rattle.journal_text.specs.JudgingChecker.{Checked, HasTaken}
-use Rattle.journal_text.specs.WritingText.{entry_words, entry_line, head_line, line, most_journal_line}
+use Rattle.journal_text.specs.WritingText.{entry_words, entry_line, head_line, most_journal_line}
 use Rattle.journal_text.specs.ReadingAnswers.{taken_with}
-use Rattle.journal_text.specs.ReadingText.{IsNoLine, Taken, begun_by, taken_text, StopsAt, JournalReading, broken, HasRead}
+use Rattle.journal_text.specs.ReadingText.{IsNoLine, Taken, begun_by, taken_text, StopsAt, JournalReading, reading_broken, HasRead}
 use Rattle.journal_text.proofs.ReadingLemmas.{no_line_more}
 use Rattle.journal_replay.specs.ReplayProgress.{Checks, HasReplayed, ReplayWaits}
 use Rattle.journal_replay.specs.Replay.{AreJournalLines}
@@ -137,7 +137,7 @@ entry_at text e old new checker checker' profile begun has reads whole in_profil
 
 -- the next line is none
 pub stops_none : (text : List ℕ) (old new : JournalReading) (checker : Checked) (offset : ℕ)
-    → new ≡ broken old → offset ≡ old.offset
+    → new ≡ reading_broken old → offset ≡ old.offset
     → ((taken : Taken) → HasRead text taken old → HasRead text taken new)
     → HasReplayed text old checker → (more : List ℕ) → StopsAt (text ++ more) offset
 stops_none text old new checker offset is at reads has more =

@@ -10,9 +10,9 @@ use Rattle.session_machine.specs.declared.item.Profile.{Profile}
 use Rattle.plain_words.specs.Words.{HasNo, SplitsAt}
 use Rattle.journal_text.specs.declared.reading.journal_reader.JournalNext.{JournalNext}
 use Rattle.journal_text.specs.declared.reading.journal_reader.JournalNext.TheVariants as nexts
-use Rattle.journal_text.specs.WritingText.{head_words, entry_words, line, head_line, entry_line, journal_text, PlaceFits, EntryFits}
+use Rattle.journal_text.specs.WritingText.{head_words, entry_words, ended_line, head_line, entry_line, journal_text, PlaceFits, EntryFits}
 use Rattle.journal_text.specs.ReadingAnswers.{taken_with, IfNotAJournal}
-use Rattle.journal_text.specs.ReadingText.{IsTooLong, IsNoLine, Taken, taken_text, StopsAt, JournalReading, fed, broken, HasRead}
+use Rattle.journal_text.specs.ReadingText.{IsTooLong, IsNoLine, Taken, taken_text, StopsAt, JournalReading, reading_fed, reading_broken, HasRead}
 use Rattle.journal_text.specs.ReadingWords.{IsEntry}
 use Rattle.journal_text.proofs.JournalLemmas.{line_then, line_short}
 
@@ -97,7 +97,7 @@ kept_whole true held piece e = cc
 kept_whole false held piece e = refl
 
 pub feed_goes_on : (text piece : List ℕ) (taken : Taken) (r : JournalReading) → HasRead text taken r
-    → HasRead (text ++ piece) taken (fed r piece)
+    → HasRead (text ++ piece) taken (reading_fed r piece)
 feed_goes_on text piece taken r has = record {
   rest = has.rest ++ piece;
   fits = has.fits;
@@ -110,7 +110,7 @@ feed_goes_on text piece taken r has = record {
 
 pub on_ok_goes_on : {E : Type 0} (result : Result Unit E) (piece : List ℕ)
     (old new : JournalReading)
-    → OnOk result (new ≡ fed old piece)
+    → OnOk result (new ≡ reading_fed old piece)
     → OnOk result ((text : List ℕ) (taken : Taken) → HasRead text taken old
     → HasRead (text ++ piece) taken new)
 on_ok_goes_on (Ok x) piece old new e = λ text taken has. subst (HasRead (text ++ piece) taken)
@@ -140,7 +140,7 @@ fits_push profile (x ∷ xs) e h fits = (h.0, fits_push profile xs e h.1 fits)
 module _ (lines : List ℕ) (offset len : ℕ) (may_feed : Bool) (below : len < length lines)
     (split : SplitsAt 10 lines (take len lines) (drop (len + 1) lines)) where
   line_is : (words : List ℕ) → take len lines ≡ words
-      → (lines ≡ line words ++ drop (len + 1) lines) × (length (line words) ≡ len + 1)
+      → (lines ≡ ended_line words ++ drop (len + 1) lines) × (length (ended_line words) ≡ len + 1)
   line_is words is =
       let l = length-take len lines in
       let w = ap length is in
@@ -226,7 +226,7 @@ pub breaks : (held : List ℕ) (offset : ℕ) (begun : Option Profile) (may_feed
     → IsNoLine begun held
     → (text : List ℕ) (taken : Taken)
     → HasRead text taken (whole_reader held offset begun may_feed)
-    → HasRead text taken (broken (whole_reader held offset begun may_feed))
+    → HasRead text taken (reading_broken (whole_reader held offset begun may_feed))
 breaks held offset begun may_feed wrong text taken has = record {
   rest = has.rest;
   fits = has.fits;
@@ -331,7 +331,7 @@ module _ (lines : List ℕ) (offset : ℕ) (begun : Option Profile) (is_broken m
           ⊎ IsNoLine self.begun self.held)) (sym answer)
           (inr (subst (λ r. IsNoLine r.begun r.held) self_is wrong))
 
-      pub broken_reads : (new : JournalReading) → new ≡ broken (state begun is_broken)
+      pub broken_reads : (new : JournalReading) → new ≡ reading_broken (state begun is_broken)
           → (text : List ℕ) (taken : Taken) → HasRead text taken self
           → HasRead text (taken_with result taken) new
       broken_reads new new_is text taken has =

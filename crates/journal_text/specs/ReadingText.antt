@@ -5,7 +5,7 @@ use Rattle.asp_base.specs.Limits.{most_piece}
 use Rattle.session_machine.specs.declared.entry.Entry.{Entry}
 use Rattle.session_machine.specs.declared.item.Profile.{Profile}
 use Rattle.plain_words.specs.Words.{HasNo, SplitsAt}
-use Rattle.journal_text.specs.WritingText.{head_words, entry_words, line, journal_text, PlaceFits, EntryFits, IsJournal, most_journal_line}
+use Rattle.journal_text.specs.WritingText.{head_words, entry_words, ended_line, journal_text, PlaceFits, EntryFits, IsJournal, most_journal_line}
 
 -- ---- lines
 
@@ -91,25 +91,25 @@ abbrev pub new_reader : JournalReading
 new_reader = record { held = []; offset = 0; begun = None; is_broken = false; may_feed = true }
 
 -- with one piece more; a broken reader keeps nothing
-abbrev pub fed : JournalReading → List ℕ → JournalReading
-fed old piece = record old {
+abbrev pub reading_fed : JournalReading → List ℕ → JournalReading
+reading_fed old piece = record old {
   held = if old.is_broken then [] else old.held ++ piece;
   may_feed =
       false;
 }
 
 -- that waits for more bytes
-abbrev pub waiting : JournalReading → JournalReading
-waiting old = record old { may_feed = true }
+abbrev pub reading_waiting : JournalReading → JournalReading
+reading_waiting old = record old { may_feed = true }
 
 -- that is broken for good, at the line that it held
-abbrev pub broken : JournalReading → JournalReading
-broken old = record old { held = []; is_broken = true; may_feed = true }
+abbrev pub reading_broken : JournalReading → JournalReading
+reading_broken old = record old { held = []; is_broken = true; may_feed = true }
 
 -- The line was taken from the front of the bytes held, and the first line has this profile.
 pub record TakesLine (profile : Profile) (words : List ℕ) (old new : JournalReading) : Type 0 where
-  pub held : old.held ≡ line words ++ new.held
-  pub offset : new.offset ≡ old.offset + length (line words)
+  pub held : old.held ≡ ended_line words ++ new.held
+  pub offset : new.offset ≡ old.offset + length (ended_line words)
   pub was_whole : IsFalse old.is_broken
   pub is_whole : IsFalse new.is_broken
   pub begun : new.begun ≡ Some profile

@@ -12,7 +12,7 @@ use Rattle.session_machine.specs.declared.item.Item.{Item}
 use Rattle.session_machine.specs.Profiles.{newest}
 use Rattle.session_machine.specs.History.{Marked, marked, has_risen, is_deed_of, entries_of, after_deed, after_entry, DeedStands, IsDead, Lead, nothing}
 use Rattle.shard_core.specs.ShardStands.{TellsAfter}
-use Rattle.load_generator.specs.Load.{Generating, AreMade, answered, next_request}
+use Rattle.load_generator.specs.Load.{Generating, AreMade, generator_after, next_request}
 use Rattle.load_generator.specs.LoadRun.{IsExpiry, IsLastRemoval}
 use Rattle.plain_desk.specs.Draws.{draws}
 
@@ -182,7 +182,8 @@ made_are_asked : (g : Generating) (j : ℕ) (es : List Entry) → AreMade g j es
 made_are_asked g j [] made = refl
 made_are_asked g j (e ∷ es) made =
     let one : asks e.deed ≡ 1 = ap asks made.2 in
-    let rest = made_are_asked (answered g e.reply) (j + draws (next_request g).ask) es made.4 in
+    let rest = made_are_asked (generator_after g e.reply) (j + draws (next_request g).ask) es
+    made.4 in
     omega (arith, one, rest)
 
 removal_expires : (deed : Deed) → IsExpiry deed → (asks deed ≡ 0) × (expiries deed ≡ 1)

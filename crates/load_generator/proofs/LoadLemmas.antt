@@ -11,15 +11,15 @@ use Rattle.session_machine.specs.declared.entry.Entry.{Entry}
 use Rattle.session_machine.specs.declared.entry.Deed.TheVariants.{Asked}
 use Rattle.load_generator.specs.declared.status_counts.Counts.{Counts}
 use Rattle.load_generator.specs.StatusCounting.{CountsAre, AreBelow, counted, counts_text}
-use Rattle.load_generator.specs.Load.{Generating, next_request, next_moment, answered, generated, AreMade}
+use Rattle.load_generator.specs.Load.{Generating, next_request, next_moment, generator_after, generated, AreMade}
 use Rattle.load_generator.specs.LoadRun.{count_of, load_text}
 
 -- ---- the generator
 
 pub generated-push : (g : Generating) (es : List Entry) (e : Entry)
-    → generated g (es ++ e ∷ []) ≡ answered (generated g es) e.reply
+    → generated g (es ++ e ∷ []) ≡ generator_after (generated g es) e.reply
 generated-push g [] e = refl
-generated-push g (f ∷ fs) e = generated-push (answered g f.reply) fs e
+generated-push g (f ∷ fs) e = generated-push (generator_after g f.reply) fs e
 
 pub AreMade-push : (g : Generating) (j : ℕ) (es : List Entry) (e : Entry) → AreMade g j es
     → e.caller ≡ 0 → e.moment ≡ next_moment (generated g es)
@@ -40,8 +40,8 @@ AreMade-push g j (f ∷ fs) e made caller moment deed drawn =
       made.1,
       made.2,
       made.3,
-      AreMade-push (answered g f.reply) (j + draws (next_request g).ask) fs e made.4 caller moment
-          deed
+      AreMade-push (generator_after g f.reply) (j + draws (next_request g).ask) fs e made.4
+          caller moment deed
           (drawn ∙ ap (λ n. draw_of 1 most_cookie n (next_request (generated g (f ∷ fs))).ask)
           (omega (arith, first))),
     )

@@ -90,8 +90,8 @@ grant_after grant key Acquire (Found body minutes (Some cookie) first) =
 grant_after grant key ask reply = grant
 
 -- the generator after its next request was answered
-abbrev pub answered : Generating → Reply → Generating
-answered g reply = record {
+abbrev pub generator_after : Generating → Reply → Generating
+generator_after g reply = record {
   number = number_after g.number;
   made = g.made + 1;
   grant = grant_after g.grant (next_request g).key (next_request g).ask reply;
@@ -106,9 +106,9 @@ AreMade g j [] = ⊤
 AreMade g j (e ∷ es) =
     (e.caller ≡ 0) × (e.moment ≡ next_moment g) × (e.deed ≡ Asked (next_request g))
     × (e.drawn ≡ draw_of 1 most_cookie j (next_request g).ask)
-    × AreMade (answered g e.reply) (j + draws (next_request g).ask) es
+    × AreMade (generator_after g e.reply) (j + draws (next_request g).ask) es
 
 -- the generator after these entries
 abbrev pub generated : Generating → List Entry → Generating
 generated g [] = g
-generated g (e ∷ es) = generated (answered g e.reply) es
+generated g (e ∷ es) = generated (generator_after g e.reply) es

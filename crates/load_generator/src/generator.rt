@@ -1,7 +1,7 @@
 //! The requests of a load.
 ghost use Rattle.std.specs.Prelude.{◌≡◌, ◌++◌, ◌+◌, ◌*◌, ◌%◌, ◌/◌, ◌<◌, ◌≤◌, ◌^◌, codes, decimal, length, IfOk};
 ghost use Rattle.asp_messages.specs.Ranges.{AskFits, CookieFits, KeyFits, RequestFits, ReplyFits};
-ghost use Rattle.load_generator.specs.Load.{number_after, part_of, numbered_key, asking, writing, release, named_write, request_of, seeded, next_request, next_moment, answered};
+ghost use Rattle.load_generator.specs.Load.{number_after, part_of, numbered_key, asking, writing, release, named_write, request_of, seeded, next_request, next_moment, generator_after};
 
 use asp_base::{Bytes, NoMemory};
 use asp_messages::{Ask, Reply, Request};
@@ -10,7 +10,7 @@ use std::alloc::Global;
 use std::marker::Model;
 
 /// The timeout of each write, in minutes.
-const MINUTES: u64 = 20;
+const TIMEOUT_MINUTES: u64 = 20;
 
 /// The key of a number and the cookie of an acquire that was answered `Found`.
 #[derive(Drop)]
@@ -75,7 +75,7 @@ fn write(alloc: Global, k: u64, cookie: Option<u64>) -> Result<Ask, NoMemory>
 {
     Ok(Ask::Write {
         body: text(alloc, b"", k)?,
-        minutes: MINUTES,
+        minutes: TIMEOUT_MINUTES,
         fresh: false,
         cookie,
     })
@@ -198,7 +198,7 @@ impl Generator {
     pub fn heard(&mut self, reply: &Reply)
         requires made { self.old.made < 2 ^ 32 }
         requires reply { ReplyFits reply.now }
-        ensures { self.new ≡ answered self.old reply.now }
+        ensures { self.new ≡ generator_after self.old reply.now }
     {
         let number = self.next_number();
         let part = number / 65_536;

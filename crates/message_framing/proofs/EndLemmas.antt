@@ -6,58 +6,63 @@ use Rattle.std.proofs.Math.Seq.{take-append-add}
 use Rattle.asp_messages.proofs.FramingLemmas.{split_alike}
 use Rattle.message_framing.specs.declared.head.Phase.{Phase}
 use Rattle.message_framing.specs.declared.head.Phase.TheVariants.{Blank}
-use Rattle.message_framing.specs.HeadEnd.{after, seen, EndsHead}
+use Rattle.message_framing.specs.HeadEnd.{after, phase_after, EndsHead}
 
 -- ---- bytes in two parts
 
-pub seen-more : (p q : Phase) (xs ys : List ℕ) → seen p xs ≡ Some q → seen p (xs ++ ys) ≡ seen q ys
-seen-more p q [] ys e = let same : p ≡ q = cc in ap (λ r. seen r ys) same
-seen-more p q (x ∷ xs) ys e =
-    elim (after p x) as (λ o. (elim o as (λ _. Option Phase) [ None ↦ None | Some n ↦ seen n xs ])
-    ≡ Some q → (elim o as (λ _. Option Phase) [ None ↦ None | Some n ↦ seen n (xs ++ ys) ])
-    ≡ seen q ys) [
+pub phase_after-more : (p q : Phase) (xs ys : List ℕ) → phase_after p xs ≡ Some q
+    → phase_after p (xs ++ ys) ≡ phase_after q ys
+phase_after-more p q [] ys e = let same : p ≡ q = cc in ap (λ r. phase_after r ys) same
+phase_after-more p q (x ∷ xs) ys e =
+    elim (after p x) as (λ o. (elim o as (λ _. Option Phase)
+    [ None ↦ None | Some n ↦ phase_after n xs ])
+    ≡ Some q → (elim o as (λ _. Option Phase) [ None ↦ None | Some n ↦ phase_after n (xs ++ ys) ])
+    ≡ phase_after q ys) [
       | None ↦ λ h. cc
-      | Some n ↦ λ h. seen-more n q xs ys h
+      | Some n ↦ λ h. phase_after-more n q xs ys h
     ] e
 
-pub seen-ended : (p : Phase) (xs ys : List ℕ) → seen p xs ≡ None → seen p (xs ++ ys) ≡ None
-seen-ended p [] ys e = cc
-seen-ended p (x ∷ xs) ys e =
-    elim (after p x) as (λ o. (elim o as (λ _. Option Phase) [ None ↦ None | Some n ↦ seen n xs ])
-    ≡ None → (elim o as (λ _. Option Phase) [ None ↦ None | Some n ↦ seen n (xs ++ ys) ])
+pub phase_after-ended : (p : Phase) (xs ys : List ℕ) → phase_after p xs ≡ None
+    → phase_after p (xs ++ ys) ≡ None
+phase_after-ended p [] ys e = cc
+phase_after-ended p (x ∷ xs) ys e =
+    elim (after p x) as (λ o. (elim o as (λ _. Option Phase)
+    [ None ↦ None | Some n ↦ phase_after n xs ])
+    ≡ None → (elim o as (λ _. Option Phase) [ None ↦ None | Some n ↦ phase_after n (xs ++ ys) ])
     ≡ None) [
       | None ↦ λ h. refl
-      | Some n ↦ λ h. seen-ended n xs ys h
+      | Some n ↦ λ h. phase_after-ended n xs ys h
     ] e
 
 -- one byte after those that were seen
-pub seen-one : (p q : Phase) (xs : List ℕ) (b : ℕ) → seen p xs ≡ Some q
-    → seen p (xs ++ b ∷ []) ≡ after q b
-seen-one p q xs b e = seen-more p q xs (b ∷ []) e ∙ one (after q b)
+pub phase_after-one : (p q : Phase) (xs : List ℕ) (b : ℕ) → phase_after p xs ≡ Some q
+    → phase_after p (xs ++ b ∷ []) ≡ after q b
+phase_after-one p q xs b e = phase_after-more p q xs (b ∷ []) e ∙ one (after q b)
   where
     one : (o : Option Phase) → (elim o as (λ _. Option Phase) [ None ↦ None | Some n ↦ Some n ]) ≡ o
     one None = refl
     one (Some n) = refl
 
 -- a head's end was seen in its bytes
-pub ended : (text : List ℕ) → EndsHead text → seen Blank text ≡ None
-ended text e = ap (seen Blank) e.bytes_are ∙ seen-one Blank e.phase e.front e.last e.open_before
+pub ended : (text : List ℕ) → EndsHead text → phase_after Blank text ≡ None
+ended text e = ap (phase_after Blank) e.bytes_are
+    ∙ phase_after-one Blank e.phase e.front e.last e.open_before
     ∙ e.ends
 
 -- ---- one end
 
 -- bytes in which no head ends begin with none
-pub none-seen : (bytes text back : List ℕ) (p : Phase) → seen Blank bytes ≡ Some p → EndsHead text
-    → bytes ≡ text ++ back → ⊥
+pub none-seen : (bytes text back : List ℕ) (p : Phase) → phase_after Blank bytes ≡ Some p
+    → EndsHead text → bytes ≡ text ++ back → ⊥
 none-seen bytes text back p so e is =
-    let none : seen Blank bytes ≡ None = ap (seen Blank) is
-    ∙ seen-ended Blank text back (ended text e) in
+    let none : phase_after Blank bytes ≡ None = ap (phase_after Blank) is
+    ∙ phase_after-ended Blank text back (ended text e) in
     let clash : ◌≡◌ {A = Option Phase} None (Some p) = sym none ∙ so in
     cc
 
 -- a head that ends behind the first n of the bytes, in which none does
-pub long-seen : (bytes text back : List ℕ) (n : ℕ) (p : Phase) → seen Blank (take n bytes) ≡ Some p
-    → EndsHead text
+pub long-seen : (bytes text back : List ℕ) (n : ℕ) (p : Phase)
+    → phase_after Blank (take n bytes) ≡ Some p → EndsHead text
     → bytes ≡ text ++ back → n < length text
 long-seen bytes text back n p so e is = lt_of_not-le (λ (short : length text ≤ n).
     let m = n - length text in

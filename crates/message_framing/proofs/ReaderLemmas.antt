@@ -11,7 +11,7 @@ use Rattle.message_framing.specs.declared.message_reader.Found.TheVariants as fo
 use Rattle.message_framing.specs.declared.message_reader.State.{State}
 use Rattle.message_framing.specs.declared.message_reader.State.TheVariants as states
 use Rattle.message_framing.specs.Framed.{Framed, GivesMessage, IsRead, IfFound, SearchStands, TakesFramed, is_broken_state, looks_of}
-use Rattle.message_framing.specs.HeadEnd.{seen, EndsHead}
+use Rattle.message_framing.specs.HeadEnd.{phase_after, EndsHead}
 use Rattle.message_framing.specs.ReaderState.{CountedReader, TakesMessage}
 use Rattle.message_framing.specs.Looks.{IsOpen}
 use Rattle.message_framing.proofs.EndLemmas.{none-seen, long-seen, ends-same}
@@ -30,7 +30,7 @@ module _ {M : Type 0} (IsHead : List ℕ → ℕ → Type 0) (Means : List ℕ �
         ∙ append_assoc f.text f.body back
 
     -- no head's end was seen in the bytes
-    pub unseen-none : (bytes : List ℕ) (p : Phase) → seen Blank bytes ≡ Some p
+    pub unseen-none : (bytes : List ℕ) (p : Phase) → phase_after Blank bytes ≡ Some p
         → HasNoMessage (Framed Means) bytes
     unseen-none bytes p so front back m is f =
         none-seen bytes f.text (f.body ++ back) p so (ends f.text f.body m f.means).0
@@ -45,7 +45,7 @@ module _ {M : Type 0} (IsHead : List ℕ → ℕ → Type 0) (Means : List ℕ �
         let head = ends f.text f.body m f.means in
         let behind : n < length f.text =
         long-seen (bytes ++ more) f.text (f.body ++ back) n p
-        (ap (seen Blank) front_same ∙ so.seen_so) head.0
+        (ap (phase_after Blank) front_same ∙ so.seen_so) head.0
         (in_three (bytes ++ more) front back m f is) in
         omega (arith, head.1)
 

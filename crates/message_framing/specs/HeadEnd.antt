@@ -13,9 +13,10 @@ after Feed byte = if byte == 10 then None else (if byte == 13 then Some Return e
 after Return byte = if byte == 10 then None else Some Line
 
 -- several bytes more: none where the head ends in them
-abbrev pub seen : Phase → List ℕ → Option Phase
-seen phase [] = Some phase
-seen phase (byte ∷ bytes) = elim (after phase byte) [ None ↦ None | Some next ↦ seen next bytes ]
+abbrev pub phase_after : Phase → List ℕ → Option Phase
+phase_after phase [] = Some phase
+phase_after phase (byte ∷ bytes) =
+    elim (after phase byte) [ None ↦ None | Some next ↦ phase_after next bytes ]
 
 -- A head ends with the last of the bytes, and not before.
 pub record EndsHead (bytes : List ℕ) : Type 0 where
@@ -23,5 +24,5 @@ pub record EndsHead (bytes : List ℕ) : Type 0 where
   pub phase : Phase
   pub last : ℕ
   pub bytes_are : bytes ≡ front ++ last ∷ []
-  pub open_before : seen Blank front ≡ Some phase
+  pub open_before : phase_after Blank front ≡ Some phase
   pub ends : after phase last ≡ None

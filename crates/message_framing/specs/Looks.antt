@@ -5,13 +5,13 @@ use Rattle.message_framing.specs.declared.head.HeadSearch.{HeadSearch}
 use Rattle.message_framing.specs.declared.head.HeadSearch.TheVariants.{Ended, Open}
 use Rattle.message_framing.specs.declared.head.Phase.{Phase}
 use Rattle.message_framing.specs.declared.head.Phase.TheVariants.{Blank}
-use Rattle.message_framing.specs.HeadEnd.{seen, EndsHead}
+use Rattle.message_framing.specs.HeadEnd.{phase_after, EndsHead}
 
 -- The first n of the bytes were looked at, and a head doesn't end in them.
 pub record IsOpen (bytes : List ℕ) (n : ℕ) (phase : Phase) : Type 0 where
   pub within : n ≤ length bytes
   pub short : n ≤ most_head
-  pub seen_so : seen Blank (take n bytes) ≡ Some phase
+  pub seen_so : phase_after Blank (take n bytes) ≡ Some phase
 
 -- A head ends with the first n of the bytes.
 pub record IsEnded (bytes : List ℕ) (n : ℕ) : Type 0 where

@@ -1,7 +1,7 @@
 //! A head: where it ends, at its first empty line after its first byte that is neither carriage
 //! return nor line feed (RFC 7230, section 3); and its fields by name, where `httparse` found them.
 ghost use Rattle.std.specs.Prelude.{◌≡◌, ◌<◌, ◌≤◌, ◌-◌, length, take, Some, map, All, codes};
-ghost use Rattle.message_framing.specs.HeadEnd.{after, seen};
+ghost use Rattle.message_framing.specs.HeadEnd.{after, phase_after};
 ghost use Rattle.message_framing.specs.Looks.{LooksOn, LooksOnce};
 ghost use Rattle.asp_messages.specs.Head.{most_head};
 ghost use Rattle.httparse.specs.Spans.{IsHeaderWithin, header_bytes};
@@ -90,7 +90,7 @@ fn look_once<L: Ledger>(
     requires at { at < end }
     requires end { end ≤ length held.now }
     requires room { end ≤ most_head }
-    requires seen { seen Phase.Blank (take at held.now) ≡ Some phase }
+    requires seen { phase_after Phase.Blank (take at held.now) ≡ Some phase }
     ensures looks { LooksOnce held.now at end result (steps.new - steps.old) }
     ensures rises { steps.old ≤ steps.new }
 {
@@ -116,7 +116,7 @@ pub fn look_on<L: Ledger>(
 ) -> HeadSearch
     requires from { from ≤ length held.now }
     requires room { from ≤ most_head }
-    requires seen { seen Phase.Blank (take from held.now) ≡ Some phase }
+    requires seen { phase_after Phase.Blank (take from held.now) ≡ Some phase }
     ensures looks { LooksOn held.now from result (steps.new - steps.old) }
     ensures rises { steps.old ≤ steps.new }
 {

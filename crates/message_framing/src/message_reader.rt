@@ -5,7 +5,7 @@ ghost use Rattle.asp_messages.specs.Head.{most_head};
 ghost use Rattle.message_framing.specs.declared.head.Phase.{Phase};
 ghost use Rattle.message_framing.specs.declared.head.Phase.TheVariants.{Blank};
 ghost use Rattle.message_framing.specs.Framed.{Framed, BeginsMessage, BeginsNothing, IfFound, UnlessFound, looks_of, is_broken_state, SearchStands, IsLooked, IsPast, GivesMessage, LooksWithin, TakesFramed, IsNext};
-ghost use Rattle.message_framing.specs.HeadEnd.{seen, EndsHead};
+ghost use Rattle.message_framing.specs.HeadEnd.{phase_after, EndsHead};
 ghost use Rattle.asp_base.specs.Limits.{most_piece};
 ghost use Rattle.asp_messages.specs.Stream.{HasNoMessage, IsHopeless};
 ghost use Rattle.message_framing.specs.ReaderState.{CountedReader, empty_reader, fed, waiting, broken, most_held, TakesMessage};
@@ -87,7 +87,7 @@ pub trait MessageKind {
     ghost short: { (text : List ℕ) (len : ℕ) → IsHead text len → len ≤ most_body };
 
     // Bytes without the end of a head wait for it, where there is room for one.
-    ghost waits_for_head: { (bytes : List ℕ) (phase : Phase) → seen Blank bytes ≡ Some phase
+    ghost waits_for_head: { (bytes : List ℕ) (phase : Phase) → phase_after Blank bytes ≡ Some phase
         → length bytes < most_head → Waits bytes };
 
     // A head whose body is not whole waits for it.

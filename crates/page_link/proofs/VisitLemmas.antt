@@ -22,7 +22,7 @@ use Rattle.page_link.specs.declared.visit_end.VisitEnd.{VisitEnd}
 use Rattle.page_link.specs.declared.visit_end.VisitEnd.TheVariants as ends
 use Rattle.page_link.specs.Exchanges.{VisitIsUnderway, kept_ending}
 use Rattle.page_link.specs.Links.{Exchanges, KeepsPauses}
-use Rattle.page_link.specs.VisitTurns.{VisitTurn, moment_of, events_of, text_of, answer_heard, pause_of, past_of, texts_of, answers_of, pauses_of, GaveMoments}
+use Rattle.page_link.specs.VisitTurns.{VisitTurn, moment_of, events_of, turn_text, answer_heard, pause_of, past_of, texts_of, answers_of, pauses_of, GaveMoments}
 use Rattle.page_link.specs.Visits.{Scene, FollowsVisitRule, AllFollow, IsVisit, ForcesOldLocks, IsBadRest, AreAllReplies, SentAs, loss_of, IfVisitOver, TellsReplies, EndsWell}
 use Rattle.page_link.proofs.LinkLemmas.{Exchanges-trans, KeepsPauses-trans}
 
@@ -85,7 +85,7 @@ pub record Goes (ending : Ending) (before now now' : Scene) (kept kept' : Option
     pub follows : FollowsVisitRule before.visit.terms (past_of ending run.turns) turn
     pub moment : GivesMoment now.clock now'.clock (moment_of turn)
     pub received : List ℕ
-    pub exchanged : Exchanges now.link now'.link (text_of turn) received
+    pub exchanged : Exchanges now.link now'.link (turn_text turn) received
     pub pauses : KeepsPauses now.pauses now'.pauses (pause_of turn)
     pub answers : Spelled SpellsReply (run.received ++ received)
         (answers_of run.turns ++ answer_heard turn) held'
@@ -100,7 +100,7 @@ pub goes_on : (ending : Ending) (before now now' : Scene) (kept kept' : Option E
     → VisitIsUnderway ending before now' kept' held'
 goes_on ending before now now' kept kept' held held' run turn goes =
     let pasts = sym (flat_map-push (events_of ending) run.turns turn) in
-    let texts = sym (flat_map-push text_of run.turns turn) in
+    let texts = sym (flat_map-push turn_text run.turns turn) in
     let answers = sym (flat_map-push answer_heard run.turns turn) in
     let pauses = sym (flat_map-push pause_of run.turns turn) in
     record {
@@ -116,7 +116,7 @@ goes_on ending before now now' kept kept' held held' run turn goes =
       exchanged = subst (λ s. Exchanges before.link now'.link s (run.received ++ goes.received))
           texts
           (Exchanges-trans before.link now.link now'.link (texts_of run.turns)
-          (text_of turn) run.received goes.received run.exchanged goes.exchanged);
+          (turn_text turn) run.received goes.received run.exchanged goes.exchanged);
       pauses = subst (KeepsPauses before.pauses now'.pauses) pauses
           (KeepsPauses-trans before.pauses now.pauses now'.pauses (pauses_of run.turns)
           (pause_of turn) run.pauses goes.pauses);

@@ -33,10 +33,10 @@ events_of ending (paused t until) = []
 events_of ending (ran t) = ended ending ∷ []
 
 -- the text of the request that was sent
-abbrev pub text_of : VisitTurn → List ℕ
-text_of (asked t request answer) = request_text request
-text_of (paused t until) = []
-text_of (ran t) = []
+abbrev pub turn_text : VisitTurn → List ℕ
+turn_text (asked t request answer) = request_text request
+turn_text (paused t until) = []
+turn_text (ran t) = []
 
 -- the answer that was heard
 abbrev pub answer_heard : VisitTurn → List StreamAnswer
@@ -56,7 +56,7 @@ abbrev pub past_of : Ending → List VisitTurn → List Event
 past_of ending turns = flat_map (events_of ending) turns
 
 abbrev pub texts_of : List VisitTurn → List ℕ
-texts_of turns = flat_map text_of turns
+texts_of turns = flat_map turn_text turns
 
 abbrev pub answers_of : List VisitTurn → List StreamAnswer
 answers_of turns = flat_map answer_heard turns

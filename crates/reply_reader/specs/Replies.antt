@@ -65,6 +65,6 @@ filled_reply replies.CookiesOut body = messages.Reply replies.CookiesOut
 filled_reply replies.PlacesOut body = messages.Reply replies.PlacesOut
 
 -- the message with this body
-abbrev pub filled : ReplyMessage → List ℕ → ReplyMessage
-filled (messages.Reply r) body = filled_reply r body
-filled (messages.Strange status) body = messages.Strange status
+abbrev pub filled_reply_message : ReplyMessage → List ℕ → ReplyMessage
+filled_reply_message (messages.Reply r) body = filled_reply r body
+filled_reply_message (messages.Strange status) body = messages.Strange status

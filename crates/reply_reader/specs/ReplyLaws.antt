@@ -14,11 +14,11 @@ use Rattle.asp_messages.specs.declared.reply.Reply.{Reply}
 use Rattle.asp_messages.proofs.FramingLemmas.{body_length-le}
 use Rattle.asp_messages.specs.Fields.{Field, Occurrence, absent, one, twice, once, response_fields, body_length, most_body, lock_cookie_field}
 use Rattle.asp_messages.specs.Head.{IsReplyHead, most_head}
-use Rattle.asp_messages.specs.ReplySpelling.{StreamAnswer, reply, strange, answer_spelled, reply_of, ok_reply, done_reply, found_reply, locked_reply, plain_reply, strange_unless, minutes_field, action_flags_field, holder_field, age_field, since_field, SpellsReply}
+use Rattle.asp_messages.specs.ReplySpelling.{StreamAnswer, reply, strange, answer_spelled, reply_from, ok_reply, done_reply, found_reply, locked_reply, plain_reply, strange_unless, minutes_field, action_flags_field, holder_field, age_field, since_field, SpellsReply}
 use Rattle.asp_messages.specs.Stream.{HasNoMessage, IsHopeless, IsWaiting}
 use Rattle.message_framing.specs.declared.head.Phase.{Phase}
 use Rattle.message_framing.specs.declared.head.Phase.TheVariants.{Blank, Line, Feed}
-use Rattle.message_framing.specs.HeadEnd.{seen, EndsHead}
+use Rattle.message_framing.specs.HeadEnd.{phase_after, EndsHead}
 use Rattle.message_framing.specs.Framed.{Framed, TakesFramed}
 use Rattle.message_framing.specs.ReaderState.{ReaderState, CountedReader, TakesMessage}
 use Rattle.message_framing.proofs.EndLemmas.{none-seen}
@@ -26,17 +26,17 @@ use Rattle.message_framing.proofs.SectionLemmas.{then, in-line, in-line-one, end
 use Rattle.reply_reader.specs.declared.reply_kind.ReplyMessage.{ReplyMessage}
 use Rattle.reply_reader.specs.declared.reply_kind.ReplyMessage.TheVariants as messages
 use Rattle.reply_reader.specs.ReplyNext.{TakesReplyCounted}
-use Rattle.reply_reader.specs.Replies.{IsReplyAnnounced, IsReplyParsed, MeansReply, SpellsMessage, answer_told, filled, filled_reply}
+use Rattle.reply_reader.specs.Replies.{IsReplyAnnounced, IsReplyParsed, MeansReply, SpellsMessage, answer_told, filled_reply_message, filled_reply}
 
 -- ---- where a head ends
 
 -- the version begins the start line
-version-line : (minor : ℕ) → seen Blank (print_version minor) ≡ Some Line
+version-line : (minor : ℕ) → phase_after Blank (print_version minor) ≡ Some Line
 version-line minor = in-line-one (48 + minor) (omega arith)
 
 -- the reason, where there is one
 reason-line : (reason : Option (List ℕ)) → AllPass is_value_byte (reason_phrase reason)
-    → seen Line (print_reason reason) ≡ Some Line
+    → phase_after Line (print_reason reason) ≡ Some Line
 reason-line None all = refl
 reason-line (Some phrase) all = in-line is_value_byte phrase refl all
 
@@ -106,7 +106,7 @@ parsed-announced text headers spans len is = record {
   announced = ap body_length (sym is.of.1.fields) ∙ is.announced;
 }
 
-pub waits_for_head : (bytes : List ℕ) (phase : Phase) → seen Blank bytes ≡ Some phase
+pub waits_for_head : (bytes : List ℕ) (phase : Phase) → phase_after Blank bytes ≡ Some phase
     → length bytes < most_head → IsWaiting IsReplyHead response_fields bytes
 waits_for_head bytes phase so room = inl (
   (λ front back head is h. none-seen bytes front back phase
@@ -191,11 +191,11 @@ filled_answer : StreamAnswer → List ℕ → StreamAnswer
 filled_answer (reply r) body = answer_told (filled_reply r body)
 filled_answer (strange status) body = strange status
 
-filled-told : (m : ReplyMessage) (body : List ℕ)
-    → answer_told (filled m body) ≡ filled_answer (answer_told m) body
+filled_reply_message-told : (m : ReplyMessage) (body : List ℕ)
+    → answer_told (filled_reply_message m body) ≡ filled_answer (answer_told m) body
 unfolding filled_answer
-filled-told (messages.Reply r) body = refl
-filled-told (messages.Strange status) body = refl
+filled_reply_message-told (messages.Reply r) body = refl
+filled_reply_message-told (messages.Strange status) body = refl
 
 locked-filled : (status : ℕ) (body : List ℕ) (cookie age since : Option ℕ)
     → filled_answer (strange_unless status (locked_reply cookie age since)) body
@@ -274,7 +274,7 @@ by_status false status fields body e =
 
 answer-filled : (status : ℕ) (fields : List Field) (body : List ℕ)
     → filled_answer (answer_spelled status fields []) body ≡ answer_spelled status fields body
-unfolding reply_of
+unfolding reply_from
 answer-filled status fields body = by_status (status == 200) status fields body refl
 
 -- the message of a head's parts, with its body still to come
@@ -282,7 +282,7 @@ pub begins : (text : List ℕ) (headers : List HeaderSpan) (spans : ResponseSpan
     (m : ReplyMessage) → IsReplyParsed text headers spans len
     → answer_told m ≡ answer_spelled spans.code
     (map (header_bytes text) (take spans.headers headers)) []
-    → (body : List ℕ) → length body ≡ len → MeansReply text body (filled m body)
+    → (body : List ℕ) → length body ≡ len → MeansReply text body (filled_reply_message m body)
 begins text headers spans len m is says body same_len =
     let head = is.of.0 in
     let at = is.of.1 in
@@ -292,7 +292,7 @@ begins text headers spans len m is says body same_len =
       is_head = parsed-head text headers spans len is;
       announced = ap body_length (sym at.fields) ∙ is.announced ∙ ap Some (sym same_len);
       answer_is =
-          filled-told m body ∙ ap (λ a. filled_answer a body) says
+          filled_reply_message-told m body ∙ ap (λ a. filled_answer a body) says
           ∙ answer-filled spans.code fields body
           ∙ ap (λ status. answer_spelled status fields body) at.code
           ∙ ap (λ fs. answer_spelled (status_code head) fs body) at.fields;

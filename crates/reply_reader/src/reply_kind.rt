@@ -4,7 +4,7 @@ ghost use Rattle.asp_messages.specs.Fields.{response_fields};
 ghost use Rattle.asp_messages.specs.Head.{IsReplyHead, most_head};
 ghost use Rattle.asp_messages.specs.Stream.{IsWaiting};
 ghost use Rattle.message_framing.specs.Framed.{BeginsNothing};
-ghost use Rattle.reply_reader.specs.Replies.{IsReplyAnnounced, IsReplyParsed, MeansReply, SpellsMessage, filled, filled_reply};
+ghost use Rattle.reply_reader.specs.Replies.{IsReplyAnnounced, IsReplyParsed, MeansReply, SpellsMessage, filled_reply_message, filled_reply};
 ghost use Rattle.reply_reader.specs.ReplyLaws.{spells, spelled, ends, fits, short, waits_for_head, waits_for_body};
 ghost use Rattle.httparse.specs.Spans.{IsHeaderWithin, header_bytes};
 ghost use Rattle.message_framing.specs.Standings.{standing_of};
@@ -61,7 +61,7 @@ impl MessageKind for Replies {
 
     ghost Waits = { IsWaiting IsReplyHead response_fields };
 
-    ghost filled = { filled };
+    ghost filled = { filled_reply_message };
 
     ghost spells = { spells };
 
@@ -200,10 +200,10 @@ fn ok_reply(alloc: Global, buf: &[u8], headers: &[HeaderSpan]) -> Option<Reply>
 
 /// What the status says, without a body, with the fields of the head that lies in `buf`. `None`
 /// where that is no form of a reply. It takes no memory.
-#[tactic(auto, unfolding(asp_messages::specs::ReplySpelling::reply_of))]
+#[tactic(auto, unfolding(asp_messages::specs::ReplySpelling::reply_from))]
 pub fn reply(alloc: Global, status: u16, buf: &[u8], headers: &[HeaderSpan]) -> Option<Reply>
     requires { All (IsHeaderWithin (length buf.now)) headers.now }
-    ensures { result ≡ spelling.reply_of status (map (header_bytes buf.now) headers.now) [] }
+    ensures { result ≡ spelling.reply_from status (map (header_bytes buf.now) headers.now) [] }
 {
     if status == 200 {
         return ok_reply(alloc, buf, headers);

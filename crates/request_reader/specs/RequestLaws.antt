@@ -21,16 +21,16 @@ use Rattle.asp_messages.specs.RequestSpelling.{message_of, ask_of, get_ask, put_
 use Rattle.asp_messages.specs.Stream.{IsWaiting}
 use Rattle.message_framing.specs.declared.head.Phase.{Phase}
 use Rattle.message_framing.specs.declared.head.Phase.TheVariants.{Blank, Line, Feed}
-use Rattle.message_framing.specs.HeadEnd.{seen, EndsHead}
+use Rattle.message_framing.specs.HeadEnd.{phase_after, EndsHead}
 use Rattle.message_framing.specs.Framed.{Framed}
 use Rattle.message_framing.proofs.EndLemmas.{none-seen}
 use Rattle.message_framing.proofs.SectionLemmas.{then, in-line, in-line-one, end-line, token-line, blank-line, blank-lines, section-ends}
-use Rattle.request_reader.specs.Requests.{IsRequestAnnounced, IsRequestParsed, MeansRequest, filled, filled_ask}
+use Rattle.request_reader.specs.Requests.{IsRequestAnnounced, IsRequestParsed, MeansRequest, filled_message, filled_ask}
 
 -- ---- where a head ends
 
 -- the version on a start line
-version-line : (minor : ℕ) → seen Line (print_version minor) ≡ Some Line
+version-line : (minor : ℕ) → phase_after Line (print_version minor) ≡ Some Line
 version-line minor = in-line-one (48 + minor) (omega arith)
 
 -- a request head ends at its first empty line
@@ -99,7 +99,7 @@ parsed-announced text headers spans len is = record {
   announced = ap body_length (sym is.of.1.fields) ∙ is.announced;
 }
 
-pub waits_for_head : (bytes : List ℕ) (phase : Phase) → seen Blank bytes ≡ Some phase
+pub waits_for_head : (bytes : List ℕ) (phase : Phase) → phase_after Blank bytes ≡ Some phase
     → length bytes < most_head → IsWaiting IsRequestHead request_fields bytes
 waits_for_head bytes phase so room = inl (
   (λ front back head is h. none-seen bytes front back phase
@@ -152,20 +152,20 @@ spelled bytes m s = record {
 
 -- ---- the body is filled in
 
-filled-cond : (b : Bool) (x y : Message) (body : List ℕ)
-    → filled (cond b x y) body ≡ cond b (filled x body) (filled y body)
-filled-cond true x y body = refl
-filled-cond false x y body = refl
+filled_message-cond : (b : Bool) (x y : Message) (body : List ℕ)
+    → filled_message (cond b x y) body ≡ cond b (filled_message x body) (filled_message y body)
+filled_message-cond true x y body = refl
+filled_message-cond false x y body = refl
 
 filled_option : Option Ask → List ℕ → Option Ask
 filled_option None body = None
 filled_option (Some ask) body = Some (filled_ask ask body)
 
-filled-fit : (key : List ℕ) (o : Option Ask) (body : List ℕ)
-    → filled (fit_of key o) body ≡ fit_of key (filled_option o body)
+filled_message-fit : (key : List ℕ) (o : Option Ask) (body : List ℕ)
+    → filled_message (fit_of key o) body ≡ fit_of key (filled_option o body)
 unfolding filled_option
-filled-fit key None body = refl
-filled-fit key (Some ask) body = refl
+filled_message-fit key None body = refl
+filled_message-fit key (Some ask) body = refl
 
 option-cond : (b : Bool) (x y x' y' : Option Ask) (body : List ℕ) → filled_option x body ≡ x'
     → filled_option y body ≡ y' → filled_option (cond b x y) body ≡ cond b x' y'
@@ -216,13 +216,13 @@ ask-filled verb fields body =
     (option-cond (bytes_eq verb (codes "HEAD")) _ _ _ _ body refl refl)))
 
 pub message-filled : (verb target : List ℕ) (fields : List Field) (body : List ℕ)
-    → filled (message_of verb target fields []) body ≡ message_of verb target fields body
+    → filled_message (message_of verb target fields []) body ≡ message_of verb target fields body
 unfolding message_of
 message-filled verb target fields body =
-    filled-cond (is_key (percent_decode target))
+    filled_message-cond (is_key (percent_decode target))
     (fit_of (percent_decode target) (ask_of verb fields [])) Unfit body
     ∙ ap (λ m. cond (is_key (percent_decode target)) m Unfit)
-    (filled-fit (percent_decode target) (ask_of verb fields []) body
+    (filled_message-fit (percent_decode target) (ask_of verb fields []) body
     ∙ ap (fit_of (percent_decode target)) (ask-filled verb fields body))
 
 -- the message of a head's parts, with its body still to come
@@ -230,7 +230,7 @@ pub begins : (text : List ℕ) (headers : List HeaderSpan) (spans : RequestSpans
     (m : Message) → IsRequestParsed text headers spans len
     → m ≡ message_of (span_bytes text spans.method) (span_bytes text spans.path)
     (map (header_bytes text) (take spans.headers headers)) []
-    → (body : List ℕ) → length body ≡ len → MeansRequest text body (filled m body)
+    → (body : List ℕ) → length body ≡ len → MeansRequest text body (filled_message m body)
 begins text headers spans len m is says body same_len =
     let head = is.of.0 in
     let at = is.of.1 in
@@ -240,7 +240,7 @@ begins text headers spans len m is says body same_len =
       is_head = parsed-head text headers spans len is;
       announced = ap body_length (sym at.fields) ∙ is.announced ∙ ap Some (sym same_len);
       message_is =
-          ap (λ k. filled k body) says ∙ message-filled (span_bytes text spans.method)
+          ap (λ k. filled_message k body) says ∙ message-filled (span_bytes text spans.method)
           (span_bytes text spans.path) fields body
           ∙ ap (λ verb. message_of verb (span_bytes text spans.path) fields body) at.method
           ∙ ap (λ target. message_of head.method target fields body) at.path

@@ -46,6 +46,7 @@ filled_ask (Remove cookie) body = Remove cookie
 filled_ask Reset body = Reset
 
 -- the message with this body
-abbrev pub filled : Message → List ℕ → Message
-filled (Fit request) body = Fit (record { key = request.key; ask = filled_ask request.ask body })
-filled Unfit body = Unfit
+abbrev pub filled_message : Message → List ℕ → Message
+filled_message (Fit request) body =
+    Fit (record { key = request.key; ask = filled_ask request.ask body })
+filled_message Unfit body = Unfit

@@ -5,7 +5,7 @@ ghost use Rattle.asp_messages.specs.Head.{IsRequestHead, most_head};
 ghost use Rattle.asp_messages.specs.RequestSpelling.{SpellsRequest};
 ghost use Rattle.asp_messages.specs.Stream.{IsWaiting};
 ghost use Rattle.message_framing.specs.Framed.{BeginsNothing};
-ghost use Rattle.request_reader.specs.Requests.{IsRequestAnnounced, IsRequestParsed, MeansRequest, filled, filled_ask};
+ghost use Rattle.request_reader.specs.Requests.{IsRequestAnnounced, IsRequestParsed, MeansRequest, filled_message, filled_ask};
 ghost use Rattle.request_reader.specs.RequestLaws.{spells, spelled, ends, fits, short, waits_for_head, waits_for_body};
 ghost use Rattle.httparse.specs.Spans.{IsHeaderWithin, header_bytes};
 ghost use Rattle.message_framing.specs.Standings.{standing_of};
@@ -62,7 +62,7 @@ impl MessageKind for Requests {
 
     ghost Waits = { IsWaiting IsRequestHead request_fields };
 
-    ghost filled = { filled };
+    ghost filled = { filled_message };
 
     ghost spells = { spells };
 

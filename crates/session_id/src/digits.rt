@@ -3,7 +3,7 @@ ghost use Rattle.std.specs.Prelude.{◌≡◌, ◌^◌, ◌<◌, ◌≤◌, leng
 ghost use Rattle.session_id.specs.Identifiers.{number, digits as digits_of};
 
 /// The number that the digits write in the base.
-pub fn number_of(digits: &[u8], base: u128) -> u128
+pub fn number_of_digits(digits: &[u8], base: u128) -> u128
     requires below { All (λ digit. digit < base) digits.now }
     requires fits { base ^ length digits.now ≤ 2 ^ 120 }
     ensures { result ≡ number base digits.now }
@@ -21,7 +21,7 @@ pub fn number_of_bytes(bytes: &[u8]) -> u128
     ensures number { result ≡ number 256 bytes.now }
     ensures range { All (λ byte. byte < 256) bytes.now }
 {
-    number_of(bytes, 256)
+    number_of_digits(bytes, 256)
 }
 
 /// Writes the first digits of the number in the base.

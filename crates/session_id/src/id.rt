@@ -3,7 +3,7 @@ ghost use Rattle.std.specs.Prelude.{◌≡◌, ◌↔◌, ◌<◌, ℕ, List, le
 ghost use Rattle.std.specs.Option.{SomeIff};
 ghost use Rattle.session_id.specs.Identifiers.{alphabet, digit_of, group, is_text, number, text_of, IsId, IsTextOf};
 
-use crate::digits::{number_of, number_of_bytes, write_digits};
+use crate::digits::{number_of_bytes, number_of_digits, write_digits};
 use std::marker::Model;
 
 const ALPHABET: &[u8; 32] = b"abcdefghijklmnopqrstuvwxyz012345";
@@ -41,7 +41,7 @@ impl Id {
     {
         let digits = read_digits(text)?;
         let mut bytes = [0; 15];
-        write_digits(number_of(&digits, 32), 256, &mut bytes);
+        write_digits(number_of_digits(&digits, 32), 256, &mut bytes);
         Some(Id { bytes })
     }
 

@@ -7,8 +7,8 @@ use Rattle.stream_server.specs.Connections.{Wire}
 use Rattle.stream_server.specs.Doors.{Doorway}
 
 -- what a connection in memory tells
-abbrev pub line : Conn SourceInMemory SinkInMemory → Wire
-line c = record {
+abbrev pub wire_in_memory : Conn SourceInMemory SinkInMemory → Wire
+wire_in_memory c = record {
   source = Some (c.input.given, c.input.left);
   sink = Some c.output.taken;
   source_faults = c.input.faults;
@@ -18,6 +18,6 @@ line c = record {
 -- a door: the connections to come, the last first, and those that were given back
 abbrev pub doorway : List (Conn SourceInMemory SinkInMemory) → List GivenBack → Option Doorway
 doorway coming given = Some (record {
-  to_come = map line (reverse coming);
-  given_back = map (λ g. (line g.conn, g.end)) given;
+  to_come = map wire_in_memory (reverse coming);
+  given_back = map (λ g. (wire_in_memory g.conn, g.end)) given;
 })

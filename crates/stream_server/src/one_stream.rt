@@ -29,7 +29,7 @@ use stream_core::{Next, Stream};
 
 /// Room for a head and a body that are written in one call, which a connection keeps: as much as a
 /// reply with a body of 16,384 bytes has.
-type Text = FixedText<16_640>;
+type ReplyBuffer = FixedText<16_640>;
 
 /// Reads at most `most` bytes into the buffer, and feeds them to the stream.
 fn take_piece<S: Source>(source: &mut S, stream: &mut Stream, buf: &mut [u8], most: u64) -> Piece
@@ -108,7 +108,7 @@ fn answer<R: Wait + HostTime, K: Keeper + Drop, T: Sink, C: Clock, G: Gate>(
     stream: &mut Stream,
     message: Message,
     sink: &mut T,
-    text: &mut Text,
+    text: &mut ReplyBuffer,
     clock: &mut C,
     gate: &G,
 ) -> Result<(), Failed>
@@ -138,7 +138,7 @@ fn answer_held<R: Wait + HostTime, K: Keeper + Drop, T: Sink, C: Clock, G: Gate>
     pass: &mut Pass<K>,
     stream: &mut Stream,
     sink: &mut T,
-    text: &mut Text,
+    text: &mut ReplyBuffer,
     clock: &mut C,
     gate: &G,
 ) -> Stop
@@ -183,7 +183,7 @@ fn answer_held<R: Wait + HostTime, K: Keeper + Drop, T: Sink, C: Clock, G: Gate>
 }
 
 /// Writes the last `Bad`, which says that the input is broken.
-fn end_badly<T: Sink>(sink: &mut T, text: &mut Text) -> StreamEnd
+fn end_badly<T: Sink>(sink: &mut T, text: &mut ReplyBuffer) -> StreamEnd
     ensures ends { EndsBadly result (T.taken sink.old) (T.taken sink.new) }
     ensures faults { T.faults sink.old ≤ T.faults sink.new }
     ensures fault { result ≡ StreamEnd.WriteFault → Rose (T.faults sink.old) (T.faults sink.new) }
@@ -225,7 +225,7 @@ pub fn serve_stream<R: Wait + HostTime, S: Source, T: Sink, K: Keeper + Drop, C:
 {
     let mut stream = Stream::new(alloc);
     let mut buf = [0u8; MOST_PIECE];
-    let mut text = Text::new();
+    let mut text = ReplyBuffer::new();
     let mut left = MOST_INPUT;
     while left > 0 {
         match take_piece(source, &mut stream, &mut buf, left) {

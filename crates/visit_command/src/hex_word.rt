@@ -32,7 +32,7 @@ pub fn is_byte_string(word: &[u8], most: usize) -> bool
 /// The bytes that the word spells, at most `most`; `None` exactly where it spells none. The only
 /// error is want of memory.
 #[tactic(auto, unfolding(crate::specs::VisitWords::byte_string))]
-pub fn read_byte_string(alloc: Global, word: &[u8], most: usize) -> Result<Option<Bytes>, NoMemory>
+pub fn read_hex_word(alloc: Global, word: &[u8], most: usize) -> Result<Option<Bytes>, NoMemory>
     ensures value { IfOk result (λ bytes. bytes ≡ byte_string word.now most) }
     ensures short { IfOk result (λ bytes. IfSome bytes (λ b. length b ≤ most)) }
 {

@@ -4,7 +4,7 @@ ghost use Rattle.asp_messages.specs.Ranges.{KeyFits, MinutesFit};
 ghost use Rattle.visit_core.specs.Terms.{EndingFits};
 ghost use Rattle.visit_command.specs.VisitWords.{port_of, key_of, need_of, minutes_of, bare_ending, ending_of, visit_of, port_in, PageWordsFit};
 
-use crate::hex_word::{is_byte_string, read_byte_string};
+use crate::hex_word::{is_byte_string, read_hex_word};
 use asp_base::{Bytes, NoMemory, read_number};
 use asp_messages::{MOST_BODY, MOST_KEY, MOST_MINUTES};
 use std::alloc::Global;
@@ -67,7 +67,7 @@ fn read_key(alloc: Global, word: &[u8]) -> Result<Option<Bytes>, NoMemory>
     ensures value { IfOk result (λ key. key ≡ key_of word.now) }
     ensures fits { IfOk result (λ key. IfSome key KeyFits) }
 {
-    match read_byte_string(alloc, word, MOST_KEY)? {
+    match read_hex_word(alloc, word, MOST_KEY)? {
         Some(key) if !key.as_slice().is_empty() => Ok(Some(key)),
         _ => Ok(None),
     }
@@ -115,7 +115,7 @@ fn read_ending(alloc: Global, words: &[String]) -> Result<Option<Ending>, NoMemo
             let Some(minutes) = minutes_of(minutes.as_bytes()) else {
                 return Ok(None);
             };
-            match read_byte_string(alloc, body.as_bytes(), MOST_BODY as usize)? {
+            match read_hex_word(alloc, body.as_bytes(), MOST_BODY as usize)? {
                 Some(body) => Ok(Some(Ending::Save { body, minutes })),
                 None => Ok(None),
             }

@@ -11,7 +11,7 @@ use Rattle.visit_core.specs.declared.stage.Lock.{Lock}
 use Rattle.visit_core.specs.declared.stage.Stage.{Stage}
 use Rattle.visit_core.specs.declared.stage.Stage.TheVariants.{Asking, Forcing, Running, Ending, Over}
 use Rattle.visit_core.specs.Stages.{VisitState, StageFits, StageSends, stage_steps, steps_left}
-use Rattle.visit_core.specs.Tables.{meets_lock_if, answered, acquired, refused, end_answered, hears, hears_answer, hears_release, lock_met}
+use Rattle.visit_core.specs.Tables.{meets_lock_if, answered, acquired, refused_stage, end_answered, hears, hears_answer, hears_release, lock_met}
 
 flag-le : (flag : Bool) → (if flag then 1 else 0) ≤ 1
 flag-le true = omega arith
@@ -20,9 +20,9 @@ flag-le false = omega arith
 no_wait : (u : ℕ) → (if nat_lt u 0 then 1 else 0) ≤ 0
 no_wait u = grind (arith, nat_tests)
 
-refused-steps : (k : ℕ) (answer : Heard) (u : ℕ) → stage_steps k (refused answer) u ≤ 0
-refused-steps k (Reply reply) u = omega arith
-refused-steps k (Strange status) u = omega arith
+refused_stage-steps : (k : ℕ) (answer : Heard) (u : ℕ) → stage_steps k (refused_stage answer) u ≤ 0
+refused_stage-steps k (Reply reply) u = omega arith
+refused_stage-steps k (Strange status) u = omega arith
 
 acquired-steps : (k : ℕ) (content : List ℕ) (first : Bool) (cookie : Option ℕ) (u : ℕ)
     → stage_steps k (acquired content first cookie) u ≤ 2
@@ -41,10 +41,10 @@ answered-steps k Read answer u = omega arith
 answered-steps k Reset (Reply done_reply) u = omega arith
 answered-steps k Reset (Reply Missing) u = omega arith
 answered-steps k Reset answer u = omega arith
-answered-steps k (Release cookie) answer u = omega (arith, refused-steps k answer u)
+answered-steps k (Release cookie) answer u = omega (arith, refused_stage-steps k answer u)
 answered-steps k (Write body minutes fresh cookie) answer u =
-    omega (arith, refused-steps k answer u)
-answered-steps k (Remove cookie) answer u = omega (arith, refused-steps k answer u)
+    omega (arith, refused_stage-steps k answer u)
+answered-steps k (Remove cookie) answer u = omega (arith, refused_stage-steps k answer u)
 
 end_answered-steps : (k : ℕ) (answer : Heard) (u : ℕ) → stage_steps k (end_answered answer) u < 1
 end_answered-steps k (Reply done_reply) u = omega arith

@@ -18,9 +18,9 @@ abbrev pub asks_from : VisitState → ℕ → VisitState
 asks_from visit from = record visit { ask = ask_for visit.terms.need; stage = Asking from }
 
 -- an answer that does not belong to its request ends the visit
-abbrev pub refused : Heard → Stage
-refused (Reply reply) = Over (Refused (http_status reply))
-refused (Strange status) = Over (Refused status)
+abbrev pub refused_stage : Heard → Stage
+refused_stage (Reply reply) = Over (Refused (http_status reply))
+refused_stage (Strange status) = Over (Refused status)
 
 -- a lock's cookie and age are in their ranges
 abbrev pub LockFits : Lock → Type 0
@@ -61,7 +61,7 @@ answered Read (Reply (Found body minutes cookie first)) = Running (Some body) fi
 answered Read (Reply Missing) = Running None false None
 answered Reset (Reply done_reply) = Over Done
 answered Reset (Reply Missing) = Over Done
-answered ask answer = refused answer
+answered ask answer = refused_stage answer
 
 -- an answer to an ask for the session, which names this lock or none
 abbrev pub hears_answer : VisitState → ℕ → Heard → Option Lock → VisitState
@@ -73,14 +73,14 @@ abbrev pub hears_release : VisitState → Heard → VisitState
 hears_release visit (Reply done_reply) = asks_from visit 0
 hears_release visit (Reply Missing) = asks_from visit 0
 hears_release visit (Reply (Locked cookie age since)) = asks_from visit 0
-hears_release visit answer = record visit { stage = refused answer }
+hears_release visit answer = record visit { stage = refused_stage answer }
 
 -- where an answer to the request of the page's end leads
 abbrev pub end_answered : Heard → Stage
 end_answered (Reply done_reply) = Over Done
 end_answered (Reply Missing) = Over LostMissing
 end_answered (Reply (Locked cookie age since)) = Over (LostLocked cookie age)
-end_answered answer = refused answer
+end_answered answer = refused_stage answer
 
 -- an answer, by the stage that sent its request
 abbrev pub hears : VisitState → ℕ → Stage → Heard → VisitState

@@ -1,7 +1,7 @@
 //! How far a visit has come, and where an answer leads.
 ghost use Rattle.std.specs.Prelude.{◌≡◌, IfSome};
 ghost use Rattle.visit_core.specs.Terms.{HeardFits};
-ghost use Rattle.visit_core.specs.Tables.{LockFits, lock_met, acquired, answered, end_answered, refused};
+ghost use Rattle.visit_core.specs.Tables.{LockFits, lock_met, acquired, answered, end_answered, refused_stage};
 
 use crate::{Heard, Outcome};
 use asp_base::Bytes;
@@ -58,7 +58,7 @@ impl Lock {
 impl Stage {
     /// An answer that does not belong to its request ends the visit.
     pub(crate) fn refused(answer: Heard) -> Stage
-        ensures { result ≡ refused answer }
+        ensures { result ≡ refused_stage answer }
     {
         Stage::Over(Outcome::Refused {
             status: match answer {

@@ -10,7 +10,7 @@ use Rattle.asp_messages.specs.RequestSpelling.{message_of}
 use Rattle.asp_messages.specs.RequestText.{content_of}
 use Rattle.message_framing.specs.Framed.{TakesFramed}
 use Rattle.message_framing.specs.ReaderState.{CountedReader}
-use Rattle.request_reader.specs.Requests.{MeansRequest, filled, filled_ask}
+use Rattle.request_reader.specs.Requests.{MeansRequest, filled_message, filled_ask}
 use Rattle.request_reader.specs.RequestLaws.{message-filled}
 use Rattle.wire_tests.specs.Counts.{content, LooksTwice}
 
@@ -22,9 +22,10 @@ ask-content (Write old minutes fresh cookie) body = omega arith
 ask-content (Remove cookie) body = omega arith
 ask-content Reset body = omega arith
 
-filled-content : (m : Message) (body : List ℕ) → length (content (filled m body)) ≤ length body
-filled-content (Fit request) body = ask-content request.ask body
-filled-content Unfit body = omega arith
+filled_message-content : (m : Message) (body : List ℕ)
+    → length (content (filled_message m body)) ≤ length body
+filled_message-content (Fit request) body = ask-content request.ask body
+filled_message-content Unfit body = omega arith
 
 -- the content of a message is no longer than the body behind its head
 pub looks-twice : (old new : CountedReader) (ticks : ℕ) (m : Message)
@@ -35,7 +36,8 @@ looks-twice old new ticks m took =
     subst (λ k. length (content k) ≤ length took.body)
     (message-filled said.head.method said.head.target (request_fields said.head) took.body
     ∙ sym said.message_is)
-    (filled-content (message_of said.head.method said.head.target (request_fields said.head) [])
+    (filled_message-content
+    (message_of said.head.method said.head.target (request_fields said.head) [])
     took.body) in
     let held = ap length took.held ∙ length-append (took.text ++ took.body) new.bytes.held in
     let front = length-append took.text took.body in

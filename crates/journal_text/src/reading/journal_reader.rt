@@ -3,7 +3,7 @@ ghost use Rattle.std.specs.Prelude.{◌≡◌, ◌⊎◌, ◌+◌, ◌-◌, ◌<
 ghost use Rattle.asp_base.specs.Limits.{most_piece};
 ghost use Rattle.plain_words.specs.Words.{HasNo, SplitsAt};
 ghost use Rattle.journal_text.specs.WritingText.{PlaceFits, EntryFits, head_words, entry_words, most_journal_line};
-ghost use Rattle.journal_text.specs.ReadingText.{IsNoLine, Taken, IsJournalOf, StopsAt, JournalReading, most_journal_held, new_reader, fed, waiting, broken, TakesLine, TakesEntry, HasRead};
+ghost use Rattle.journal_text.specs.ReadingText.{IsNoLine, Taken, IsJournalOf, StopsAt, JournalReading, most_journal_held, new_reader, reading_fed, reading_waiting, reading_broken, TakesLine, TakesEntry, HasRead};
 ghost use Rattle.journal_text.specs.ReadingAnswers.{IfHead, IfEntry, IfNotAJournal, taken_with};
 
 use super::journal_line::{read_entry, read_head};
@@ -92,7 +92,7 @@ impl JournalReader {
         requires may_feed { IsTrue self.old.may_feed }
         requires text_fits { self.old.offset + length self.old.held + length piece.now
             < 2 ^ 63 - 1 }
-        ensures ok { OnOk result (self.new ≡ fed self.old piece.now) }
+        ensures ok { OnOk result (self.new ≡ reading_fed self.old piece.now) }
         ensures err { OnErr result (self.new ≡ self.old) }
         ensures bound { length self.new.held ≤ most_journal_held }
         ensures reads { OnOk result ((text : List ℕ) (taken : Taken) → HasRead text taken self.old
@@ -106,7 +106,7 @@ impl JournalReader {
         requires may_feed { IsTrue self.old.may_feed }
         requires text_fits { self.old.offset + length self.old.held + length piece.now
             < 2 ^ 63 - 1 }
-        ensures ok { OnOk result (self.new ≡ fed self.old piece.now) }
+        ensures ok { OnOk result (self.new ≡ reading_fed self.old piece.now) }
         ensures err { OnErr result (self.new ≡ self.old) }
         ensures bound { length self.new.held ≤ most_journal_held }
     {
@@ -139,7 +139,7 @@ impl JournalReader {
 
     fn break_off(&mut self) -> JournalNext
         ensures answer { result ≡ JournalNext.NotAJournal self.old.offset }
-        ensures broken { self.new ≡ broken self.old }
+        ensures broken { self.new ≡ reading_broken self.old }
     {
         self.lines.clear();
         self.is_broken = true;
@@ -159,14 +159,14 @@ impl JournalReader {
         ensures entry { IfEntry result (λ e. TakesEntry e self.old self.new) }
 
         // No line is whole, and there is room for more bytes.
-        ensures more { result ≡ JournalNext.More → self.new ≡ waiting self.old }
+        ensures more { result ≡ JournalNext.More → self.new ≡ reading_waiting self.old }
         ensures none_whole { result ≡ JournalNext.More
             → IsFalse self.old.is_broken × HasNo 10 self.old.held
             × (length self.old.held ≤ most_journal_line) }
 
         // The first line is none of its place, whatever follows, and the reader stays broken.
         ensures offset { IfNotAJournal result (λ offset. offset ≡ self.old.offset) }
-        ensures broken { IfNotAJournal result (λ _. self.new ≡ broken self.old) }
+        ensures broken { IfNotAJournal result (λ _. self.new ≡ reading_broken self.old) }
         ensures no_line { IfNotAJournal result
             (λ _. IsTrue self.old.is_broken ⊎ IsNoLine self.old.begun self.old.held) }
         ensures stays { IsTrue self.old.is_broken

@@ -5,7 +5,7 @@ use Rattle.asp_messages.specs.Fields.{most_cookie}
 use Rattle.shard_core.specs.ShardStands.{asked_entry}
 use Rattle.plain_desk.specs.Draws.{draw_of, draws_in}
 use Rattle.load_generator.specs.StatusCounting.{CountsAre}
-use Rattle.load_generator.specs.Load.{Generating, answered, seeded, next_request, next_moment}
+use Rattle.load_generator.specs.Load.{Generating, generator_after, seeded, next_request, next_moment}
 use Rattle.load_generator.proofs.LoadLemmas.{AreMade-push, generated-push, CountsAre-push, CountsAre-below}
 use Rattle.load_generator.proofs.load.ask_all.Goals as goal
 
@@ -41,7 +41,7 @@ loop-preserved g c =
         },
         let so_far = asked.2 in let more = length-append asked.0 (entry ∷ []) in
             omega (arith, so_far, more),
-        c.heard.ensures ∙ ap (λ (x : Generating). answered x c.act-acted.result.reply) is
+        c.heard.ensures ∙ ap (λ (x : Generating). generator_after x c.act-acted.result.reply) is
             ∙ sym (generated-push (seeded seed) asked.0 entry),
         subst (λ n. CountsAre n (asked.0 ++ entry ∷ [])) (sym c.count.ensures)
             (CountsAre-push c.loop.counts asked.0 entry asked.4),

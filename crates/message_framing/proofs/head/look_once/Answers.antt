@@ -1,8 +1,8 @@
 use Rattle.std.proofs.Common.{◌≡◌, ◌≤◌, ◌+◌, take, sym, ap, ◌∙◌, arith, ◌∷◌, ◌++◌, [], get_or, Some}
 use Rattle.std.proofs.lemmas.List.{take_more}
 use Rattle.message_framing.specs.declared.head.Phase.TheVariants.{Blank, Line}
-use Rattle.message_framing.specs.HeadEnd.{seen}
-use Rattle.message_framing.proofs.EndLemmas.{seen-one}
+use Rattle.message_framing.specs.HeadEnd.{phase_after}
+use Rattle.message_framing.proofs.EndLemmas.{phase_after-one}
 use Rattle.message_framing.proofs.LineLemmas.{still_in_line, line_ends}
 use Rattle.message_framing.proofs.head.look_once.Goals as goal
 
@@ -10,7 +10,8 @@ pub returns-in-Some-clause-looks : goal.returns-in-Some-clause-looks
 returns-in-Some-clause-looks g c =
     let held = c.args.held.now in
     let found = c.in-Some.ensures.place in
-    let so : seen Blank (take c.args.at held) ≡ Some Line = c.requires.seen ∙ ap Some c.in-Line.is
+    let so : phase_after Blank (take c.args.at held) ≡ Some Line =
+    c.requires.seen ∙ ap Some c.in-Line.is
     in (
       record {
         within = omega (arith, found.before, c.requires.end);
@@ -26,7 +27,8 @@ pub returns-in-None-clause-looks : goal.returns-in-None-clause-looks
 returns-in-None-clause-looks g c =
     let held = c.args.held.now in
     let low : c.args.at ≤ c.args.end = omega arith in
-    let so : seen Blank (take c.args.at held) ≡ Some Line = c.requires.seen ∙ ap Some c.in-Line.is
+    let so : phase_after Blank (take c.args.at held) ≡ Some Line =
+    c.requires.seen ∙ ap Some c.in-Line.is
     in (
       record {
         within = c.requires.end;
@@ -49,7 +51,7 @@ returns-in-Some-after-clause-looks g c =
       record {
         within = omega (arith, c.requires.at, c.requires.end);
         short = omega (arith, c.requires.at, c.requires.room);
-        seen_so = ap (seen Blank) more ∙ seen-one Blank c.args.phase (take at held)
+        seen_so = ap (phase_after Blank) more ∙ phase_after-one Blank c.args.phase (take at held)
             c.look-byte.result c.requires.seen ∙ sym c.after.ensures ∙ c.in-Some-after.is;
       },
       omega (arith, c.look-byte.ensures.steps),

@@ -2,7 +2,7 @@ use Rattle.std.proofs.Common.{◌≡◌, inr, sym, ap, subst, ◌∙◌, take, d
 use Rattle.std.proofs.lemmas.List.{take_all}
 use Rattle.message_framing.specs.declared.head.Phase.TheVariants.{Blank}
 use Rattle.message_framing.specs.Framed.{GivesMessage}
-use Rattle.message_framing.specs.HeadEnd.{seen}
+use Rattle.message_framing.specs.HeadEnd.{phase_after}
 use Rattle.message_framing.proofs.ReaderLemmas.{unseen-none, unseen-hopeless, short-none, begun-same, gives}
 use Rattle.message_framing.proofs.message_reader.give.Goals as goal
 
@@ -15,8 +15,8 @@ returns-then-len-clause-none_whole g c = λ _.
     let stands = rw c.in-Looking.is at c.requires.stands in
     let past = rw c.in-Looking.is at c.requires.past in
     let all : length held ≤ n = omega arith in
-    let so : seen Blank held ≡ Some c.in-Looking.field-1 =
-    ap (seen Blank) (sym (take_all n held all)) ∙ stands.seen_so in
+    let so : phase_after Blank held ≡ Some c.in-Looking.field-1 =
+    ap (phase_after Blank) (sym (take_all n held all)) ∙ stands.seen_so in
     unseen-none kind.IsHead kind.Means kind.filled laws.ends laws.fits held c.in-Looking.field-1 so
 
 pub returns-in-Looking-clause-hopeless : goal.returns-in-Looking-clause-hopeless

@@ -11,8 +11,8 @@ returns-in_err-digits-clause-exact c =
       λ e. absurd (exact-none c.args.text.now id c.in_err-digits.ensures.found ok e),
     ))
 
-pub number_of-requires-clause-below : goal.number_of-requires-clause-below
-number_of-requires-clause-below c =
+pub number_of_digits-requires-clause-below : goal.number_of_digits-requires-clause-below
+number_of_digits-requires-clause-below c =
     subst (All (λ d. d < 32)) (sym c.in_ok-digits.ensures.value)
     (All-digit_of c.args.text.now (sym c.in_ok-digits.ensures.found))
 
@@ -26,8 +26,8 @@ reads text ds bytes n is mapped value written =
 
 pub returns-clause-value : goal.returns-clause-value
 returns-clause-value c =
-    reads c.args.text.now c.in_ok-digits.digits c.write_digits.new.digits c.number_of.result
-    c.in_ok-digits.ensures.found c.in_ok-digits.ensures.value c.number_of.ensures
+    reads c.args.text.now c.in_ok-digits.digits c.write_digits.new.digits c.number_of_digits.result
+    c.in_ok-digits.ensures.found c.in_ok-digits.ensures.value c.number_of_digits.ensures
     c.write_digits.ensures
 
 pub returns-clause-exact : goal.returns-clause-exact

@@ -3,7 +3,7 @@ use Rattle.std.proofs.lemmas.List.{take_rest}
 use Rattle.hex.specs.Hex.{decode_of}
 use Rattle.visit_command.specs.VisitWords.{are_digits, byte_string}
 use Rattle.visit_command.proofs.ByteStringLemmas.{string_read}
-use Rattle.visit_command.proofs.hex_word.read_byte_string.Goals as goal
+use Rattle.visit_command.proofs.hex_word.read_hex_word.Goals as goal
 
 -- what was decoded is what the word spells
 read : (c : goal.After-adopt) → (Some c.in-Ok.bytes.items ≡ byte_string c.args.word.now c.args.most)

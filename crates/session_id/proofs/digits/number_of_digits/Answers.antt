@@ -1,6 +1,6 @@
 use Rattle.std.proofs.Common.{arith, sym}
 use Rattle.session_id.proofs.NumberLemmas.{number-step_lt}
-use Rattle.session_id.proofs.digits.number_of.Goals as goal
+use Rattle.session_id.proofs.digits.number_of_digits.Goals as goal
 
 pub overflow_mul-number : goal.overflow_mul-number
 overflow_mul-number c =
