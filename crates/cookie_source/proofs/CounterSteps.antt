@@ -1,7 +1,9 @@
 -- Each kind of step keeps the counter's rule.
 use Rattle.std.proofs.Common.{◌≡◌, ◌≢◌, ℕ, zero, suc, ◌+◌, ◌<◌, ◌≤◌, ◌^◌, eqb, List, [], ◌∷◌, ◌++◌, get_or, set, sym, refl, ap, ◌∙◌, subst, ⊎_elim, arith, length-set, get_or-set_same}
 use Rattle.std.specs.Prelude.{slice_index, All}
+use Rattle.std.specs.List.{sum_by}
 use Rattle.std.proofs.lemmas.List.Elements.{All-append, All-nil}
+use Rattle.std.proofs.lemmas.List.Sums.{sum_by-append, sum_by-cons}
 use mathlib.Core.Option.{none, some, some-ne-none, some-injective}
 use lib.ListN.{get_elem?}
 use lib.Seq.{set-get_or}
@@ -9,7 +11,7 @@ use prog.Atomic.{either}
 use Rattle.atomic_table.specs.Table.{State, Step, step, Act, keeps, stepped, opening, Allows, Splits}
 use Rattle.atomic_table.proofs.Lists.{at_set, at_snoc, set_again, exchanged}
 use Rattle.cookie_source.specs.declared.counter_rule.DrawerView.{DrawerView}
-use Rattle.cookie_source.specs.Counter.{drawer_view, new_drawer, nothing_drawn, total, total_below, IsDrawer, IsCounted, DrawerSeat, Looks, Draws}
+use Rattle.cookie_source.specs.Counter.{drawer_view, new_drawer, nothing_drawn, total_below, IsDrawer, IsCounted, DrawerSeat, Looks, Draws}
 
 abbrev CounterState : Type 0
 CounterState = State (Unit {0}) DrawerView
@@ -18,15 +20,13 @@ CounterState = State (Unit {0}) DrawerView
 abbrev with_words : List ℕ → CounterState → List DrawerView → CounterState
 with_words words s views = record { words = words; homes = s.homes; views = views }
 
-total-append : {A : Type 0} (g : A → ℕ) (l m : List A) → total g (l ++ m) ≡ total g l + total g m
-total-append g [] m = omega arith
-total-append g (x ∷ xs) m = omega (arith, total-append g xs m)
-
-total-set : {A : Type 0} (g : A → ℕ) (l : List A) (j : ℕ) (v w : A) → get_elem? l j ≡ some v
-    → total g (set l j w) + g v ≡ total g l + g w
-total-set g [] j v w e = absurd (some-ne-none v (sym e))
-total-set g (x ∷ xs) zero v w e = omega (arith, ap g (some-injective x v e))
-total-set g (x ∷ xs) (suc j) v w e = omega (arith, total-set g xs j v w e)
+sum_by-set : {A : Type 0} (g : A → ℕ) (l : List A) (j : ℕ) (v w : A) → get_elem? l j ≡ some v
+    → sum_by g (set l j w) + g v ≡ sum_by g l + g w
+sum_by-set g [] j v w e = absurd (some-ne-none v (sym e))
+sum_by-set g (x ∷ xs) zero v w e =
+    omega (arith, sum_by-cons g w xs, sum_by-cons g x xs, ap g (some-injective x v e))
+sum_by-set g (x ∷ xs) (suc j) v w e =
+    omega (arith, sum_by-cons g x (set xs j w), sum_by-cons g x xs, sum_by-set g xs j v w e)
 
 -- numbers below m are below a greater n
 all_below : (xs : List ℕ) (m n : ℕ) → m ≤ n → All (λ k. k < m) xs → All (λ k. k < n) xs
@@ -82,10 +82,10 @@ splits first by v s h me =
       drawn_once = λ f. omega (
         arith,
         h.drawn_once f,
-        total-append
-            (λ (u : DrawerView). total f u.drawn) (set s.views by v) (nothing_drawn v ∷ []),
+        sum_by-append
+            (λ (u : DrawerView). sum_by f u.drawn) (set s.views by v) (nothing_drawn v ∷ []),
         ap
-            (total (λ (u : DrawerView). total f u.drawn)) same,
+            (sum_by (λ (u : DrawerView). sum_by f u.drawn)) same,
       );
       each = λ j u e. let f = h.each by v me in
           ⊎_elim (λ (t : get_elem? (set s.views by v) j ≡ some u). h.each j u
@@ -116,8 +116,8 @@ sees first s h by v me =
       drawn_once = λ g. omega (
         arith,
         h.drawn_once g,
-        total-set
-            (λ (u : DrawerView). total g u.drawn) s.views by v w me,
+        sum_by-set
+            (λ (u : DrawerView). sum_by g u.drawn) s.views by v w me,
       );
       each = each_set first counter counter by s.views w (omega arith) h.each
           record {
@@ -177,9 +177,9 @@ draws first slots by m old fits s h wide me _ =
         drawn_once = λ g. omega (
           arith,
           h.drawn_once g,
-          total-set
-              (λ (u : DrawerView). total g u.drawn) s.views by m.0 w me,
-          total-append g m.0.drawn
+          sum_by-set
+              (λ (u : DrawerView). sum_by g u.drawn) s.views by m.0 w me,
+          sum_by-append g m.0.drawn
               (counter ∷ []),
           ap (total_below g) (now ∙ more),
         );

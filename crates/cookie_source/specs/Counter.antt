@@ -1,6 +1,7 @@
 -- The rule of a counter that threads share, whose only word is the next cookie, and what each kind
 -- of step tells.
 use Rattle.std.specs.Prelude.{◌≡◌, ◌≢◌, ℕ, zero, suc, ◌+◌, ◌<◌, ◌≤◌, List, [], ◌∷◌, ◌++◌, length, slice_index, All}
+use Rattle.std.specs.List.{sum_by}
 use mathlib.Core.Option.{some}
 use lib.ListN.{get_elem?}
 use Rattle.atomic_table.specs.Table.{State, Me, Step}
@@ -17,11 +18,6 @@ new_drawer first_cookie = drawer_view first_cookie [] first_cookie
 -- a second drawer, which drew nothing
 abbrev pub nothing_drawn : DrawerView → DrawerView
 nothing_drawn v = drawer_view v.first_cookie [] v.seen
-
--- the sum of f over the list
-abbrev pub total : {A : Type 0} → (A → ℕ) → List A → ℕ
-total f [] = 0
-total f (x ∷ xs) = f x + total f xs
 
 -- the sum of f over the numbers below n
 abbrev pub total_below : (ℕ → ℕ) → ℕ → ℕ
@@ -41,7 +37,7 @@ pub record IsDrawer (first_cookie counter : ℕ) (v : DrawerView) : Type 0 where
 pub record IsCounted (first_cookie : ℕ) (s : State (Unit {0}) DrawerView) : Type 0 where
   pub one_word : length s.words ≡ 1
   pub from_first : first_cookie ≤ slice_index s.words 0
-  pub drawn_once : (weight : ℕ → ℕ) → total (λ v. total weight v.drawn) s.views
+  pub drawn_once : (weight : ℕ → ℕ) → sum_by (λ v. sum_by weight v.drawn) s.views
       + total_below weight first_cookie ≡ total_below weight (slice_index s.words 0)
   pub each : (by : ℕ) (v : DrawerView) → get_elem? s.views by ≡ some v
       → IsDrawer first_cookie (slice_index s.words 0) v

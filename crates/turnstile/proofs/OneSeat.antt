@@ -13,7 +13,7 @@ use Rattle.turnstile.specs.declared.stands.TurnTerms.{TurnTerms}
 use Rattle.turnstile.specs.declared.turn_rule.SeatView.{SeatView}
 use Rattle.turnstile.specs.TurnRule.{end_of_places, one_if, mark, FitsHistory, Stored, IsOrdered}
 use Rattle.turnstile.specs.TurnSteps.{saw}
-use Rattle.turnstile.proofs.Seats.{there, one_there, each_set, total-set, KeepsApart, apart_set}
+use Rattle.turnstile.proofs.Seats.{there, one_there, each_set, sum_by-set, KeepsApart, apart_set}
 
 module _ {S E : Type 0} where
   -- the table, with what lies in its words and slots, and its seats
@@ -96,7 +96,7 @@ module _ {S E : Type 0} (stands : S → TurnTerms → List E → Type 0) (caller
           queued = omega (
             arith,
             o.queued,
-            total-set (λ
+            sum_by-set (λ
                 (u : SeatView E). one_if u.ticket) s.views by v w me,
           );
           numbered = numbered;

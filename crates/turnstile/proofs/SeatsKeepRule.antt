@@ -1,5 +1,6 @@
 -- Each split and each join of seats keeps the rule, and a new table has it.
 use Rattle.std.proofs.Common.{◌≡◌, ◌≢◌, ℕ, zero, suc, ◌<◌, ◌≤◌, List, [], ◌∷◌, ◌++◌, true, false, true≢false, Option, Some, None, length, set, refl, sym, ap, ◌∙◌, subst, inl, inr, ⊎_elim, arith}
+use Rattle.std.proofs.lemmas.List.Sums.{sum_by_push}
 use Rattle.std.proofs.lemmas.List.Elements.{All-nil}
 use mathlib.Core.List.{IsPrefix}
 use mathlib.Core.Option.{some, some-ne-none, some-injective}
@@ -10,7 +11,7 @@ use Rattle.turnstile.specs.declared.stands.TurnTerms.{TurnTerms}
 use Rattle.turnstile.specs.declared.turn_rule.SeatView.{SeatView}
 use Rattle.turnstile.specs.TurnRule.{end_of_places, calls_of, roll, to_pass, from_roll, note, with_note, with_count, used_up, one_if, mark, FitsHistory, IsOrdered}
 use Rattle.turnstile.proofs.Fronts.{prefix_nil}
-use Rattle.turnstile.proofs.Seats.{at_end, at_front, set_swap, each_set, none_some, one_number, total-append, apart_more}
+use Rattle.turnstile.proofs.Seats.{at_end, at_front, set_swap, each_set, none_some, one_number, apart_more}
 use Rattle.turnstile.proofs.OneSeat.{of, FitsAt, same_ticket, same_number, same_count, stored_set, next, stays}
 
 module _ {S E : Type 0} (stands : S → TurnTerms → List E → Type 0) (caller : E → ℕ)
@@ -49,7 +50,7 @@ module _ {S E : Type 0} (stands : S → TurnTerms → List E → Type 0) (caller
           queued = omega (
             arith,
             k.queued,
-            total-append (λ
+            sum_by_push (λ
                 (u : SeatView E). one_if u.ticket) (set s.views by l) r,
             ap one_if free,
           );

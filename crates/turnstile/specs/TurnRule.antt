@@ -1,7 +1,7 @@
 -- The rule of a turnstile's table. Word 0 is the ticket, word 1 the serving word and word 2 the
 -- number of callers. The slot holds the state.
 use Rattle.std.specs.Prelude.{◌≡◌, ℕ, ◌+◌, ◌<◌, ◌≤◌, ◌⊎◌, List, [], ◌∷◌, true, false, Option, Some, None, length, slice_index, All, cond, ◌==◌, nat_lt}
-use Rattle.std.specs.List.{filter}
+use Rattle.std.specs.List.{filter, sum_by}
 use mathlib.Core.List.{IsPrefix}
 use mathlib.Core.Option.{some}
 use lib.ListN.{get_elem?}
@@ -73,11 +73,6 @@ module _ {E : Type 0} where
   abbrev pub used_up : SeatView E
   used_up = unknowing (record { first_place = 0; first_number = 0; last_number = 0 })
 
-  -- the sum of f over the seats
-  abbrev pub total : (SeatView E → ℕ) → List (SeatView E) → ℕ
-  total f [] = 0
-  total f (v ∷ vs) = f v + total f vs
-
   -- no two seats have one number by f
   abbrev pub Apart : (SeatView E → Option ℕ) → List (SeatView E) → Type 0
   Apart f views = (i j n : ℕ) (v w : SeatView E) → get_elem? views i ≡ some v
@@ -119,7 +114,7 @@ module _ {E : Type 0} where
       -- the tickets that are held are those from the one served up to the ticket word, which is at
       -- most the end of places
       pub within_places : slice_index s.words 0 ≤ end_of_places
-      pub queued : slice_index s.words 1 + total (λ v. one_if v.ticket) s.views
+      pub queued : slice_index s.words 1 + sum_by (λ v. one_if v.ticket) s.views
           ≡ slice_index s.words 0
       -- each entry's caller is a number that was drawn
       pub numbered : All (λ e. caller e < slice_index s.words 2) log
