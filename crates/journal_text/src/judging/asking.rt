@@ -125,7 +125,7 @@ fn change_absent(
 }
 
 /// A request, by one look-up of its item.
-pub fn ask(
+pub fn take_request(
     alloc: Global,
     profile: Profile,
     items: &mut BTreeMap<Bytes, Item>,

@@ -10,7 +10,7 @@ ghost use Rattle.journal_text.specs.JudgingChecker.{KnowsHistory, KnowsWhileLega
 ghost use Rattle.journal_text.specs.JudgingDeeds.{IsBarred, IsDone, ItemsFit};
 ghost use Rattle.journal_text.specs.JudgingEntries.{IsReason, Judges};
 
-use super::asking::ask;
+use super::asking::take_request;
 use super::replies::{has_risen, wrong_reply};
 use super::{Judgement, Why};
 use asp_base::{Bytes, NoMemory};
@@ -83,7 +83,7 @@ fn act(
     ensures err { OnErr result (items.new.entries ≡ items.old.entries) }
 {
     match deed {
-        Deed::Asked(request) => ask(alloc, profile, items, request, t, drawn, rose, reply),
+        Deed::Asked(request) => take_request(alloc, profile, items, request, t, drawn, rose, reply),
         Deed::Expired(key) => Ok(expire(items, &key, t)),
         Deed::Looked => wrong_reply(reply, Kind::Done, None, rose),
     }

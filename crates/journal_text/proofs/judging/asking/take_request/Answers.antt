@@ -3,7 +3,7 @@ use Rattle.std.proofs.lemmas.Map.Steps.{set_value_same}
 use Rattle.session_machine.specs.Machine.{Circumstances}
 use Rattle.journal_text.specs.JudgingDeeds.{LeavesOf}
 use Rattle.journal_text.proofs.ItemLemmas.{asked-item, asked-nothing, on_err, some-there}
-use Rattle.journal_text.proofs.judging.asking.ask.Goals as goal
+use Rattle.journal_text.proofs.judging.asking.take_request.Goals as goal
 
 pub returns-in_err-why-clause-err : goal.returns-in_err-why-clause-err
 returns-in_err-why-clause-err c =
