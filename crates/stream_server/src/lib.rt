@@ -13,6 +13,6 @@ mod worker;
 pub use all_workers::{Served, serve_all};
 pub use door::{Conn, Door, StreamEnd};
 pub use memory_door::{GivenBack, MemoryDoor};
-pub use one_stream::serve_stream;
+pub use one_stream::{reply_to, serve_stream};
 pub use tcp_door::TcpDoor;
 pub use worker::Worker;

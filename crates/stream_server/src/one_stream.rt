@@ -74,7 +74,7 @@ enum Stop {
 }
 
 /// The reply to a message at the moment `t`. The store is asked for each that is a request.
-fn reply_to<R: Wait, K: Keeper + Drop, G: Gate>(
+pub fn reply_to<R: Wait, K: Keeper + Drop, G: Gate>(
     rt: &R,
     store: &Store<K>,
     pass: &mut Pass<K>,
