@@ -1,6 +1,6 @@
 -- A stream from one step to the next.
 use Rattle.std.proofs.Common.{◌≡◌, ℕ, ◌+◌, ◌<◌, ◌≤◌, List, [], ◌∷◌, ◌++◌, length, map, take, Option, Some, None, refl, sym, ap, ◌∙◌, arith, subst, inl, inr, append-nil}
-use Rattle.std.specs.Prelude.{Bool, true, false}
+use Rattle.std.specs.Prelude.{Bool, true, false, IsFalse}
 use Rattle.asp_base.specs.Causes.{Rose}
 use Rattle.asp_base.specs.Limits.{most_input}
 use Rattle.asp_base.specs.Outside.{Takes, Gives, IsAtEnd}
@@ -29,7 +29,7 @@ use Rattle.event_loop.specs.declared.resumable.Step.{Step}
 use Rattle.event_loop.specs.declared.resumable.Step.TheVariants as steps
 use Rattle.event_loop.specs.declared.unsent.Unsent.{Unsent}
 use Rattle.event_loop.specs.PendingReplies.{WroteInPart, rest_of}
-use Rattle.event_loop.specs.Resuming.{Standing, standing, ReplyIsPending, LastBadIsPending, StandsBy, StreamStands, Continues, EndsStream, StepLeads, UnlessOver, AdvanceLeads, UnlessAdvancedOver, advanced_by}
+use Rattle.event_loop.specs.Resuming.{Standing, standing, ReplyIsPending, LastBadIsPending, StandsBy, StreamStands, Continues, EndsStream, StepLeads, UnlessOver, AdvanceLeads, UnlessAdvancedOver, IsResumable, IsResumableBy, advanced_by}
 use Rattle.event_loop.proofs.PendingLemmas.{wrote-none, wrote-more, wrote-whole, wrote-same, written-one}
 
 -- ---- where a stream stands
@@ -458,3 +458,9 @@ step-unless (steps.Over end) Fact is fact = cc
 pub not_both : (x : Bool) → x ≡ true → x ≡ false → ⊥
 not_both true t f = cc
 not_both false t f = cc
+
+-- where nothing is to be written, a stream that can be served on is not broken
+pub not-broken : (s : ResumableStream) → s.pending ≡ pendings.Nothing → IsResumable s
+    → IsFalse s.stream.reader.is_broken
+not-broken s sent resumable =
+    subst (λ p. IsResumableBy p s.stream.reader.is_broken) sent resumable
