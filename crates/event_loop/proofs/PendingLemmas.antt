@@ -20,7 +20,7 @@ pub reply-some : (r : Reply) → 0 < length (reply_text r)
 unfolding head_text
 reply-some (replies.Found body minutes cookie first) = omega arith
 reply-some replies.Done = omega arith
-reply-some (replies.Locked cookie age) = omega arith
+reply-some (replies.Locked cookie age since) = omega arith
 reply-some replies.Missing = omega arith
 reply-some replies.Bad = omega arith
 reply-some replies.KeeperFault = omega arith

@@ -299,8 +299,9 @@ impl ResumableStream {
         let mut is_drained = false;
         for _ in 0..MOST_STEPS {
             let step = self.step(rt, store, pass, peer, buf, text, is_drained, clock, gate);
-            if let Some(advanced) = advanced_by(step) {
-                return advanced;
+            match advanced_by(step) {
+                Some(advanced) => return advanced,
+                None => {}
             }
             if step == Step::Drained {
                 is_drained = !may_end;
