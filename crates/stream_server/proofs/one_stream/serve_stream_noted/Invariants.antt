@@ -6,7 +6,7 @@ use Rattle.state_store.specs.Passes.{IsPassOf, caller_of}
 use Rattle.stream_server.specs.Callers.{caller_with}
 use Rattle.stream_server.specs.Connections.{line_of}
 use Rattle.stream_server.specs.StreamProgress.{Streaming}
-use Rattle.stream_server.proofs.one_stream.serve_stream.Given as goal
+use Rattle.stream_server.proofs.one_stream.serve_stream_noted.Given as goal
 
 abbrev pub invariant-loop-left : goal.invariant-loop-left
 invariant-loop-left g l = record {

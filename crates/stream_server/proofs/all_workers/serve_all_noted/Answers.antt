@@ -6,8 +6,8 @@ use Rattle.stream_server.specs.WorkerPasses.{AllHaveMet}
 use Rattle.stream_server.specs.Serving.{IsServed}
 use Rattle.stream_server.specs.Workers.{means_of}
 use Rattle.stream_server.proofs.ServingLemmas.{all_served, passes_are, untouched-cleared}
-use Rattle.stream_server.proofs.all_workers.serve_all.Goals as goal
-use Rattle.stream_server.proofs.all_workers.serve_all.Goals.{then-has_failed, else-has_failed}
+use Rattle.stream_server.proofs.all_workers.serve_all_noted.Goals as goal
+use Rattle.stream_server.proofs.all_workers.serve_all_noted.Goals.{then-has_failed, else-has_failed}
 
 pub finish-requires-clause-passes : goal.finish-requires-clause-passes
 finish-requires-clause-passes g c =

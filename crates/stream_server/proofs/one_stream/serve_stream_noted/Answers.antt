@@ -11,7 +11,7 @@ use Rattle.stream_server.specs.Callers.{caller_with}
 use Rattle.stream_server.specs.Connections.{line_of}
 use Rattle.stream_server.specs.StreamProgress.{Streaming}
 use Rattle.stream_server.proofs.StreamLemmas.{streaming-start, streaming-fed, streaming-on, end-long, end-no_memory, end-badly, end-unfed, end-write, hopeless-none, hopeless-some, fed_is, rose-since}
-use Rattle.stream_server.proofs.one_stream.serve_stream.Goals as goal
+use Rattle.stream_server.proofs.one_stream.serve_stream_noted.Goals as goal
 
 pub loop-left-init : goal.loop-left-init
 loop-left-init g c =
