@@ -11,6 +11,8 @@ mod history;
 #[cfg(test)]
 mod memory;
 #[cfg(test)]
+mod notes;
+#[cfg(test)]
 mod rude_peers;
 #[cfg(test)]
 mod serve_runs;
