@@ -12,6 +12,7 @@ use asp_base::{Gate, NoMemory};
 use asp_messages::{Reply, Request};
 use cookie_source::{CookieSource, FreshCookies};
 use keeper::Keeper;
+use placement::byte_hash;
 use std::alloc::Global;
 use std::snapshot::Snapshot;
 use std::sync::{Arc, Wait};
@@ -54,11 +55,7 @@ pub fn shard_of(key: &[u8], shards: u64) -> u64
     ensures shard { result ≡ shard_of_key key.now shards }
     ensures below { result < shards }
 {
-    let mut hash: u64 = 0;
-    for byte in key {
-        hash = (hash * 31 + u64::from(*byte)) % 65536;
-    }
-    hash % shards
+    byte_hash(key) % shards
 }
 
 impl<K: Keeper + Drop> Store<K> {

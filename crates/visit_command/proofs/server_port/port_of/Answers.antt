@@ -1,6 +1,6 @@
 use Rattle.std.proofs.Common.{sym}
 use Rattle.asp_base.proofs.NumberLemmas.{number_of-le}
-use Rattle.visit_command.proofs.visit_words.port_of.Goals as goal
+use Rattle.visit_command.proofs.server_port.port_of.Goals as goal
 
 pub returns-then-port-gt0-clause-fits : goal.returns-then-port-gt0-clause-fits
 returns-then-port-gt0-clause-fits c =
