@@ -33,5 +33,5 @@ fn identifiers_spread_over_servers(rt: HostRuntime) {
     ] {
         assert_eq!(rt; server_of(key, servers), server);
     }
-    assert!(rt; identifier_in(b"/LM/W3SVC/1/ROOT(q)/id") == b"id");
+    assert!(rt; identifier_in(b"/LM/W3SVC/1/ROOT(q)/id") == b"id".as_slice());
 }
