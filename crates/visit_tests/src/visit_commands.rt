@@ -323,7 +323,9 @@ fn words_are_those_of_a_page_line(rt: HostRuntime) -> Result<(), Fail> {
 }
 
 /// The port of a visit to `/s` among the ports from 1 to this one.
-fn port_among(alloc: Global, last: u64) -> Result<Option<u64>, Fail> {
+fn port_among(alloc: Global, last: u64) -> Result<Option<u64>, Fail>
+    requires { last ≤ 100 }
+{
     let mut text = String::from_str(alloc, "visit 1")?;
     for port in 2..last + 1 {
         text.push_str(&format!(in alloc; ",{port}")?)?;
