@@ -84,12 +84,11 @@ module _ {K : Type 0} (G : Ghosts K) (script script' : Script K) (world : World)
             (λ turn below is. absurd (omega arith)) stands.numbered)
 
     -- limits for the pages to come
-    pub limits-taken : (limits : Limits) (out : List ℕ) → script'.limits ≡ limits
+    pub limits-set : (limits : Limits) → script'.limits ≡ limits
         → script'.pages.items ≡ script.pages.items
         → desk_state G script'.desk ≡ desk_state G script.desk
-        → WorldTakes G script' world (lines.Limits limits)
-        (λ printed. out ≡ out ++ printed)
-    limits-taken limits out is items desk = record {
+        → WorldTakes G script' world (lines.Limits limits) (λ printed. printed ≡ [])
+    limits-set limits is items desk = record {
       world' = record world { limits = limits };
       printed = [];
       step = (refl, refl);
@@ -100,7 +99,7 @@ module _ {K : Type 0} (G : Ghosts K) (script script' : Script K) (world : World)
         numbered = stands.numbered;
         desk = rw desk stands.desk;
       };
-      prints = sym (append-nil out);
+      prints = refl;
     }
 
     -- a step of the page at a place

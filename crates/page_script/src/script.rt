@@ -67,14 +67,14 @@ fn push_page(pages: &mut Vec<ScriptPage>, page: ScriptPage) -> Result<(), NoMemo
 }
 
 impl<K: Keeper> Script<K> {
-    ghost use Rattle.std.specs.Prelude.{◌≡◌, ◌≤◌, ◌^◌, []};
+    ghost use Rattle.std.specs.Prelude.{◌≡◌, ◌≤◌, ◌^◌, ◌↔◌, [], IsTrue};
     ghost use Rattle.std.specs.List.{AllByRecursion};
     ghost use Rattle.keeper.specs.Items.{IsEmptyTold};
     ghost use Rattle.session_machine.specs.History.{nothing};
     ghost use Rattle.shard_core.specs.ShardStands.{StandsFor};
     ghost use Rattle.page_script.specs.declared.line.Line.{Line};
     ghost use Rattle.page_script.specs.Lines.{LineFits, PageFits};
-    ghost use Rattle.page_script.specs.World.{empty_world, history, IsLawfulWorld, PagesForceOldLocks};
+    ghost use Rattle.page_script.specs.World.{empty_world, history, HasName, IsLawfulWorld, PagesForceOldLocks};
     ghost use Rattle.page_script.specs.ScriptStands.{ScriptStands, IsAppended, IfTold, IfTells, ScriptIsOver, keeper_of};
     ghost use Rattle.page_script.specs.ScriptStands.{EachWorld, EachWorldStays, EachWorldTakes, EachWorldMayTake, NoWorldTakes, EachWorldTakesText, EachWorldMayTakeText, NoWorldTakesText};
 
@@ -96,8 +96,28 @@ impl<K: Keeper> Script<K> {
         }
     }
 
-    /// A new page.
-    fn add_page(&mut self, line: PageLine) -> LineEnd
+    /// Whether it has a page of this name.
+    pub fn has_page(&self, name: &Name) -> bool
+        ensures { EachWorld ⟦<K as Keeper>⟧ self.now (λ world.
+            IsTrue result ↔ HasName world.pages name.now) }
+    {
+        place_of(&self.pages, name).is_some()
+    }
+
+    /// The limits of the pages to come. It takes no memory.
+    pub fn set_limits(&mut self, limits: Limits)
+        requires { LimitsFit limits }
+        ensures takes { EachWorldTakes ⟦<K as Keeper>⟧ self.old self.new
+            (Line.Limits limits) (λ printed. printed ≡ []) }
+        ensures goes_on { ScriptIsOver self.new → ScriptIsOver self.old }
+        ensures keeper { keeper_of self.new ≡ keeper_of self.old }
+    {
+        self.limits = limits;
+    }
+
+    /// A new page, which is no line where its name is in use or 64 pages are there. After
+    /// `NoMemory` the script is over.
+    pub fn add_page(&mut self, line: PageLine) -> LineEnd
         requires { PageFits line }
         ensures done { result ≡ LineEnd.Done → EachWorldTakes ⟦<K as Keeper>⟧ self.old self.new
             (Line.Page line) (λ printed. printed ≡ []) }
@@ -123,8 +143,9 @@ impl<K: Keeper> Script<K> {
         }
     }
 
-    /// One step of the page of this name.
-    fn step(&mut self, t: u64, name: Name, out: &mut Vec<u8>) -> LineEnd
+    /// One step of the page of this name, which is no line where there is none: what it prints is
+    /// appended. After `NoMemory` the script is over, and the step was made or not.
+    pub fn step(&mut self, t: u64, name: Name, out: &mut Vec<u8>) -> LineEnd
         requires { t ≤ 2 ^ 62 }
         ensures done { result ≡ LineEnd.Done → EachWorldTakes ⟦<K as Keeper>⟧ self.old self.new
             (Line.Step t name) (IsAppended out.old.items out.new.items) }
@@ -169,7 +190,7 @@ impl<K: Keeper> Script<K> {
     {
         match line {
             Line::Limits(limits) => {
-                self.limits = limits;
+                self.set_limits(limits);
                 LineEnd::Done
             }
             Line::Page(page) => self.add_page(page),
