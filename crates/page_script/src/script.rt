@@ -7,6 +7,7 @@ use crate::script_page::ScriptPage;
 use crate::{Line, Name, PageLine, read_line};
 use asp_base::NoMemory;
 use asp_messages::{MOST_COOKIE, or_undo};
+use cookie_source::PlainCookies;
 use keeper::Keeper;
 use plain_desk::PlainDesk;
 use std::alloc::Global;
@@ -70,12 +71,13 @@ impl<K: Keeper> Script<K> {
     ghost use Rattle.std.specs.Prelude.{◌≡◌, ◌≤◌, ◌^◌, ◌↔◌, [], IsTrue};
     ghost use Rattle.std.specs.List.{AllByRecursion};
     ghost use Rattle.keeper.specs.Items.{IsEmptyTold};
-    ghost use Rattle.session_machine.specs.History.{nothing};
     ghost use Rattle.shard_core.specs.ShardStands.{StandsFor};
     ghost use Rattle.page_script.specs.declared.line.Line.{Line};
     ghost use Rattle.page_script.specs.Lines.{LineFits, PageFits};
-    ghost use Rattle.page_script.specs.World.{empty_world, history, HasName, IsLawfulWorld, PagesForceOldLocks};
-    ghost use Rattle.page_script.specs.ScriptStands.{ScriptStands, IsAppended, IfTold, IfTells, ScriptIsOver, keeper_of};
+    ghost use Rattle.asp_messages.specs.Fields.{most_cookie};
+    ghost use Rattle.plain_desk.specs.Openings.{HasFreshCookies, cookies_of, opening_over, opening_with};
+    ghost use Rattle.page_script.specs.World.{history, world_from, HasName, IsLawfulWorld, PagesForceOldLocks};
+    ghost use Rattle.page_script.specs.ScriptStands.{ScriptStands, IsAppended, IfTold, IfTells, ScriptIsOver, keeper_of, opening_of};
     ghost use Rattle.page_script.specs.ScriptStands.{EachWorld, EachWorldStays, EachWorldTakes, EachWorldMayTake, NoWorldTakes, EachWorldTakesText, EachWorldMayTakeText, NoWorldTakesText};
 
     /// A script with no pages over a keeper with no items, whose cookies begin at 1. It takes no
@@ -84,12 +86,27 @@ impl<K: Keeper> Script<K> {
         requires no_faults { K.count keeper ≡ 0 }
         requires empty { IsEmptyTold (K.told keeper) }
         ensures keeper { keeper_of result ≡ keeper }
-        ensures stands { ScriptStands ⟦<K as Keeper>⟧ result empty_world }
+        ensures stands { ScriptStands ⟦<K as Keeper>⟧ result
+            (world_from (opening_with 1 most_cookie)) }
+        ensures begun { ScriptIsOver result → ⊥ }
+    {
+        Script::over(alloc, keeper, Some(PlainCookies::new(1, MOST_COOKIE)))
+    }
+
+    /// A script with no pages over the keeper, whose acquires draw these cookies; with `None` they
+    /// find none. Its history begins with the items that the keeper has. It takes no memory.
+    pub fn over(alloc: Global, keeper: K, cookies: Option<PlainCookies>) -> Script<K>
+        requires { HasFreshCookies (opening_over ⟦<K as Keeper>⟧ keeper (cookies_of cookies)) }
+        ensures keeper { keeper_of result ≡ keeper }
+        ensures begins { opening_of ⟦<K as Keeper>⟧ result
+            ≡ opening_over ⟦<K as Keeper>⟧ keeper (cookies_of cookies) }
+        ensures stands { ScriptStands ⟦<K as Keeper>⟧ result
+            (world_from (opening_over ⟦<K as Keeper>⟧ keeper (cookies_of cookies))) }
         ensures begun { ScriptIsOver result → ⊥ }
     {
         Script {
             alloc,
-            desk: PlainDesk::new(alloc, keeper, 1, MOST_COOKIE),
+            desk: PlainDesk::over(alloc, keeper, cookies),
             pages: Vec::new(alloc),
             limits: Limits::default(),
             is_over: false,
@@ -245,7 +262,8 @@ impl<K: Keeper> Script<K> {
     pub fn into_keeper(self) -> K
         ensures keeper { result ≡ keeper_of self }
         ensures history { EachWorld ⟦<K as Keeper>⟧ self (λ world.
-            StandsFor nothing 0 (history world.turns) (K.told result) (K.count result)) }
+            StandsFor world.opening.items world.opening.count (history world.turns)
+            (K.told result) (K.count result)) }
         ensures counts { EachWorld ⟦<K as Keeper>⟧ self (λ world.
             AllByRecursion (λ e. K.can_count e.faults) (history world.turns)) }
         ensures lawful { EachWorld ⟦<K as Keeper>⟧ self IsLawfulWorld }
