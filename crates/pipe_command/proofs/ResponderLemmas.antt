@@ -19,7 +19,7 @@ use Rattle.pipe_command.specs.Answering.{IsAnsweredInto, owed_for}
 use Rattle.pipe_command.specs.PlainRun.{output_of}
 use Rattle.pipe_command.specs.PipeProgress.{Progress}
 use Rattle.plain_desk.specs.DeskStands.{desk_state}
-use Rattle.pipe_command.specs.Responding.{PipeGave, HasAnswered, HasAnsweredLast, IsRest, IsUnbegun, Keeps, PipeLacks, PipeWaits, PipeWent, given, owing, state_of_responder, unbegun}
+use Rattle.pipe_command.specs.Responding.{PipeGave, HasAnswered, HasAnsweredLast, IsRest, IsUnbegun, Keeps, PipeLacks, PipeWaits, PipeWent, given, owing, start_with, state_of_responder, unbegun}
 use Rattle.pipe_command.proofs.ProgressLemmas.{Progress-fed, goes_on}
 
 -- the first line of a journal from place 0
@@ -129,12 +129,12 @@ module _ {K : Type 0} (G : Ghosts K) (first : Responder K) where
     pipe = pipe ∙ has.pipe;
     floor = ap (λ d. G.floor d.keeper) desk ∙ has.floor;
     progress =
-        subst (λ d. Progress G.can_count first.pipe bytes due (record {
+        subst (λ d. Progress G.can_count (start_with G first) bytes due (record {
           held = rest;
           desk = desk_state G d;
           clock = new.clock;
         })) (sym desk)
-        (subst (λ c. Progress G.can_count first.pipe bytes due (record {
+        (subst (λ c. Progress G.can_count (start_with G first) bytes due (record {
           held = rest;
           desk = desk_state G old.desk;
           clock = c;
@@ -148,7 +148,7 @@ module _ {K : Type 0} (G : Ghosts K) (first : Responder K) where
   has_fed now bytes rest due piece has = record {
     pipe = has.pipe;
     floor = has.floor;
-    progress = Progress-fed G.can_count first.pipe bytes due piece
+    progress = Progress-fed G.can_count (start_with G first) bytes due piece
         (record (state_of_responder G now) { held = rest }) has.progress;
   }
 
@@ -180,7 +180,7 @@ module _ {K : Type 0} (G : Ghosts K) (first : Responder K) where
             pipe = keeps.pipe ∙ before.pipe;
             floor = keeps.floor ∙ before.floor;
             progress =
-                goes_on G.can_count first.pipe bytes due front Gives (state_of_responder G mid)
+                goes_on G.can_count (start_with G first) bytes due front Gives (state_of_responder G mid)
                 (state_of_responder G new)
                 m one spells before.progress;
           })

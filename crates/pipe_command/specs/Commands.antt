@@ -1,6 +1,7 @@
 -- What each command does.
 use Rattle.std.specs.Prelude.{◌≡◌, ◌⊎◌, ◌++◌, ◌∷◌, [], ℕ, List, Option, ⊤}
 use Rattle.asp_base.specs.Limits.{most_input}
+use Rattle.asp_messages.specs.Fields.{most_cookie}
 use Rattle.asp_base.specs.WrittenLine.{WritesLine}
 use Rattle.journal_replay.specs.Replay as replay
 use Rattle.keeper.specs.declared.keeping.Keeper.{Ghosts}
@@ -16,7 +17,9 @@ use Rattle.command_loop.specs.Flow.{Flow}
 use Rattle.pipe_command.specs.declared.pipe.Pipe.{Pipe}
 use Rattle.pipe_command.specs.declared.command_words.Command.{Command}
 use Rattle.pipe_command.specs.declared.command_words.Command.TheVariants as commands
+use Rattle.plain_desk.specs.Openings.{opening_with}
 use Rattle.pipe_command.specs.PipeRun as pipe
+use Rattle.pipe_command.specs.PlainRun.{from_nothing}
 
 -- a fact of a run of `pipe` or `trace`
 abbrev pub IfPipe : Command → (Pipe → Type 0) → Type 0
@@ -43,7 +46,7 @@ module _ {S K : Type 0} (G : Ghosts K) (seen : Seen S K) where
   -- `id` reads nothing, and writes the identifier and a line feed.
   abbrev pub Does : Command → Type 0
   Does (commands.Pipe run) = (end : pipe.PipeEnd) × (seen.result.status ≡ pipe.status_of_pipe end)
-      × pipe.IsRun G.can_count run seen.flow
+      × pipe.IsRun G.can_count (from_nothing run) seen.flow
       (G.told seen.result.keeper) (G.count seen.result.keeper) end
   Does (commands.Load load) = (seen.source' ≡ seen.source)
       × IsLoad G.can_count load seen.flow.sink (record {
@@ -58,7 +61,8 @@ module _ {S K : Type 0} (G : Ghosts K) (seen : Seen S K) where
       seen.flow.sink' end)
   Does commands.Drive = (seen.result.status ≡ 3 → drive.TellsScript seen.flow.source → ⊥)
       × ((end : drive.ScriptEnd) × (seen.result.status ≡ drive.status_of_script end)
-      × drive.IsDrive G.can_count most_input seen.flow
+      × drive.IsDrive G.can_count
+      (record { most = most_input; opening = opening_with 1 most_cookie }) seen.flow
       (G.told seen.result.keeper) (G.count seen.result.keeper) end)
   Does (commands.Id bytes) = (seen.source' ≡ seen.source) × (seen.result.keeper ≡ seen.keeper)
       × WritesLine seen.result.status 0 seen.flow.sink seen.flow.sink' (text_of bytes ++ 10 ∷ [])
