@@ -294,7 +294,8 @@ fn end_badly<T: Sink>(sink: &mut T, text: &mut ReplyBuffer) -> StreamEnd
 ///
 /// The clock is read once for each whole message. The store is asked under the pass for each
 /// message that is a request; any other is answered `Bad`. Where the input is broken one last `Bad`
-/// is written. `notes` is told of each entry that was left, behind its reply. `Closed` comes exactly where the source ended and all bytes read are whole messages.
+/// is written. `notes` is told of each entry that was left, behind its reply. `Closed` comes exactly
+/// where the source ended and all bytes read are whole messages.
 pub fn serve_stream_noted<
     R: Wait + HostTime,
     S: Source,

@@ -3,7 +3,8 @@ use Rattle.stream_server.specs.Callers.{caller_with}
 use Rattle.stream_server.specs.Owing.{reply_owed}
 use Rattle.stream_server.proofs.AnswerLemmas.{answered}
 use Rattle.stream_server.proofs.StreamLemmas.{one-ok, one-err}
-use Rattle.std.proofs.Common.{refl}
+use Rattle.asp_messages.specs.ReplyText.{head_text, body_of}
+use Rattle.std.proofs.Common.{◌∙◌, ap, refl}
 use Rattle.stream_server.proofs.one_stream.answer.Goals as goal
 
 pub returns-clause-answered : goal.returns-clause-answered
@@ -16,8 +17,9 @@ returns-clause-answered g c =
     one-ok c.write_text-written.result (Takes (g.T.Sink.taken c.args.sink.now)
     (g.T.Sink.taken c.write_text-written.new.sink))
     c.args.message c.now-t.result reply old new
-    c.as_slice.result.now c.reply_body.result.now c.answer-head.result c.answer-head.ensures.head
-    c.as_slice.ensures c.reply_body.ensures
+    c.as_slice.result.now c.reply_body.result.now c.answer-head.result
+    (c.answer-head.ensures.head ∙ ap head_text c.reply-reply.ensures)
+    c.as_slice.ensures (c.reply_body.ensures ∙ ap body_of c.reply-reply.ensures)
     (answered c.args.message c.now-t.result reply old new owed.caller refl refl
     c.now-t.ensures.gives owed.unfit owed.leaves)
     c.write_text-written.ensures.taken
@@ -32,8 +34,9 @@ returns-clause-in_part g c =
     one-err c.write_text-written.result (TakesFront (g.T.Sink.taken c.args.sink.now)
     (g.T.Sink.taken c.write_text-written.new.sink))
     c.args.message c.now-t.result reply old new
-    c.as_slice.result.now c.reply_body.result.now c.answer-head.result c.answer-head.ensures.head
-    c.as_slice.ensures c.reply_body.ensures
+    c.as_slice.result.now c.reply_body.result.now c.answer-head.result
+    (c.answer-head.ensures.head ∙ ap head_text c.reply-reply.ensures)
+    c.as_slice.ensures (c.reply_body.ensures ∙ ap body_of c.reply-reply.ensures)
     (answered c.args.message c.now-t.result reply old new owed.caller refl refl
     c.now-t.ensures.gives owed.unfit owed.leaves)
     c.write_text-written.ensures.in_part

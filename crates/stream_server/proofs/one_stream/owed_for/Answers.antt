@@ -15,8 +15,8 @@ returns-then-wants-clause-leaves g c shard =
     (view_in old shard) (view_in c.ask_noted.new.pass shard)) (sym c.in-Fit.is)
     (c.ask_noted.ensures.leaves shard)
 
-pub returns-in-Fit-clause-leaves : goal.returns-in-Fit-clause-leaves
-returns-in-Fit-clause-leaves g c shard =
+pub returns-else-wants-clause-leaves : goal.returns-else-wants-clause-leaves
+returns-else-wants-clause-leaves g c shard =
     let old = c.args.pass.now in
     subst (λ (m : Message). LeavesIn (caller_of old)
     (asked_for (shards_of c.args.store.now) shard m c.args.t (reply_owed c.ask_plainly.result))
