@@ -9,6 +9,8 @@ mod gates;
 #[cfg(test)]
 mod history;
 #[cfg(test)]
+mod journals;
+#[cfg(test)]
 mod memory;
 #[cfg(test)]
 mod notes;

@@ -67,7 +67,7 @@ impl Notes for Told {
 }
 
 /// Two workers with a connection each, of which the one writes `/b` and the other `/d`.
-fn two_writers(alloc: Global) -> Result<Vec<MemoryWorker>, Fail>
+pub fn two_writers(alloc: Global) -> Result<Vec<MemoryWorker>, Fail>
     ensures { IfOk result (λ v. (length v.items ≡ 2) × All (λ w. w.pass ≡ None) v.items) }
 {
     let b = joined(alloc, &["PUT /b HTTP/1.1\r\nContent-Length: 1\r\n\r\nx"])?;
