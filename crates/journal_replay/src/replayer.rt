@@ -58,11 +58,7 @@ fn write_legal(out: &mut Vec<u8>, report: ReplayReport, checker: &Checker) -> Re
 
 /// Appends what is reported of the entries that were taken: what lives behind a legal history,
 /// where that is asked for, and else the line of the judgement.
-fn write_report(
-    out: &mut Vec<u8>,
-    report: ReplayReport,
-    checker: &Checker,
-) -> Result<(), NoMemory>
+fn write_report(out: &mut Vec<u8>, report: ReplayReport, checker: &Checker) -> Result<(), NoMemory>
     ensures { OnOk result ((text : List ℕ) × (out.new.items ≡ out.old.items ++ text)
         × ReportsTaken report checker.now text) }
 {
