@@ -66,13 +66,15 @@ fn pages_wait_for_a_lock_and_give_up(rt: HostRuntime) -> Result<(), Fail> {
     let alloc = rt.alloc();
     let words = words_of(alloc, &["gate", "cookie", "0", "0"])?;
     for (requests, fails, answers) in ROWS {
-        let mut input = source(alloc, &joined(alloc, requests)?, 16_384, &[])?;
+        let text = joined(alloc, requests)?;
+        let wanted = joined(alloc, answers)?;
+        let mut input = source(alloc, &text, 16_384, &[])?;
         let mut output = sink(alloc, 16_384, &[])?;
         let keeper = FaultyKeeper::new(MapKeeper::new(alloc), Vec::from_slice(alloc, fails)?);
         let random = values(alloc, &[])?;
         let status = status_over(alloc, &words, &mut input, &mut output, keeper, random);
         assert_eq!(rt; status, 0);
-        assert!(rt; output.taken() == joined(alloc, answers)?.as_slice());
+        assert!(rt; output.taken() == wanted.as_slice());
     }
     Ok(())
 }
@@ -87,9 +89,10 @@ fn pages_begin_at_their_moments(rt: HostRuntime) -> Result<(), Fail> {
         ("0", "1200000", DONE),
         ("2305843009213693952", "1200000", SHOWN),
     ] {
+        let wanted = joined(alloc, &[DONE, last])?;
         let (status, sink) = run_words(alloc, &["gate", "cookie", start, step], &text, 7, &[])?;
         assert_eq!(rt; status, 0);
-        assert!(rt; sink.taken() == joined(alloc, &[DONE, last])?.as_slice());
+        assert!(rt; sink.taken() == wanted.as_slice());
     }
     Ok(())
 }
