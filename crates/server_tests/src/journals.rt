@@ -164,7 +164,10 @@ fn the_journals_in_memory_are_of_what_was_heard(rt: HostRuntime) -> Result<(), F
             judge(&rt, alloc, journal, 20)?;
         }
     }
-    let journal = Vec::from_slice(alloc, sinks[SHARD_OF_A].taken())?;
+    let Some(of_a) = sinks.get(SHARD_OF_A) else {
+        return Err("no sink".into());
+    };
+    let journal = Vec::from_slice(alloc, of_a.taken())?;
     judge_heard(&rt, alloc, journal, workers)
 }
 
