@@ -2,7 +2,7 @@
 ghost use Rattle.std.specs.Prelude.{◌≡◌, ◌≤◌, ◌^◌, ℕ, List, [], ◌∷◌, ◌++◌};
 ghost use Rattle.asp_messages.specs.Ranges.{RequestFits, ReplyFits};
 ghost use Rattle.page_script.specs.World.{WorldTurn};
-ghost use Rattle.plain_desk.specs.Openings.{Opening};
+ghost use Rattle.plain_desk.specs.Openings.{NeverBegins, Opening};
 ghost use Rattle.page_script.specs.ScriptStands.{HasTurns, turn_at};
 
 use asp_messages::{Reply, Request};
@@ -24,6 +24,7 @@ pub fn answer<K: Keeper>(desk: &mut PlainDesk<K>, request: Request, t: u64) -> R
         }) ∷ []) }
     ensures fits { ReplyFits result }
     ensures floor { K.floor desk.new.keeper ≡ K.floor desk.old.keeper }
+    ensures tells { NeverBegins (K.told desk.old.keeper) (K.told desk.new.keeper) }
 {
     desk.act(request, t).reply
 }

@@ -75,7 +75,7 @@ impl<K: Keeper> Script<K> {
     ghost use Rattle.page_script.specs.declared.line.Line.{Line};
     ghost use Rattle.page_script.specs.Lines.{LineFits, PageFits};
     ghost use Rattle.asp_messages.specs.Fields.{most_cookie};
-    ghost use Rattle.plain_desk.specs.Openings.{HasFreshCookies, cookies_of, opening_over, opening_with};
+    ghost use Rattle.plain_desk.specs.Openings.{HasFreshCookies, NeverBegins, cookies_of, opening_over, opening_with};
     ghost use Rattle.page_script.specs.World.{history, world_from, HasName, IsLawfulWorld, PagesForceOldLocks};
     ghost use Rattle.page_script.specs.ScriptStands.{ScriptStands, IsAppended, IfTold, IfTells, ScriptIsOver, keeper_of, opening_of};
     ghost use Rattle.page_script.specs.ScriptStands.{EachWorld, EachWorldStays, EachWorldTakes, EachWorldMayTake, NoWorldTakes, EachWorldTakesText, EachWorldMayTakeText, NoWorldTakesText};
@@ -175,6 +175,7 @@ impl<K: Keeper> Script<K> {
         ensures goes_on { result ≡ LineEnd.Done → ScriptIsOver self.new → ScriptIsOver self.old }
         ensures same { (result ≡ LineEnd.Done → ⊥) → out.new.items ≡ out.old.items }
         ensures floor { K.floor (keeper_of self.new) ≡ K.floor (keeper_of self.old) }
+        ensures tells { NeverBegins (K.told (keeper_of self.old)) (K.told (keeper_of self.new)) }
     {
         let Some(place) = place_of(&self.pages, &name) else {
             return LineEnd::NotALine;
@@ -204,6 +205,7 @@ impl<K: Keeper> Script<K> {
         ensures goes_on { result ≡ LineEnd.Done → ScriptIsOver self.new → ScriptIsOver self.old }
         ensures same { (result ≡ LineEnd.Done → ⊥) → out.new.items ≡ out.old.items }
         ensures floor { K.floor (keeper_of self.new) ≡ K.floor (keeper_of self.old) }
+        ensures tells { NeverBegins (K.told (keeper_of self.old)) (K.told (keeper_of self.new)) }
     {
         match line {
             Line::Limits(limits) => {
@@ -243,6 +245,7 @@ impl<K: Keeper> Script<K> {
         ensures forced { EachWorld ⟦<K as Keeper>⟧ self.old
             (λ world. IfTells ⟦<K as Keeper>⟧ self.old (PagesForceOldLocks world)) }
         ensures floor { K.floor (keeper_of self.new) ≡ K.floor (keeper_of self.old) }
+        ensures tells { NeverBegins (K.told (keeper_of self.old)) (K.told (keeper_of self.new)) }
     {
         if self.is_over {
             return LineEnd::NoMemory;

@@ -20,7 +20,7 @@ use Rattle.message_framing.specs.ReaderState.{empty_reader}
 use Rattle.percent_encoding.proofs.PercentLemmas.{IsByte}
 use Rattle.session_machine.specs.declared.entry.Entry.{Entry}
 use Rattle.session_machine.specs.declared.item.Item.{Item}
-use Rattle.plain_desk.specs.Openings.{Opening, HasHistoryFrom, opening_over}
+use Rattle.plain_desk.specs.Openings.{NeverBegins, Opening, HasHistoryFrom, opening_over}
 use Rattle.session_machine.specs.History.{IsLegal}
 use Rattle.session_machine.specs.Profiles.{newest}
 use Rattle.shard_core.specs.ShardStands.{StandsFor}
@@ -69,6 +69,7 @@ PipeWent-start G r fits begun stream desk clock =
       record {
         pipe = refl;
         floor = refl;
+        tells = λ none. none;
         progress = record {
           messages = [];
           list = [];
@@ -137,36 +138,37 @@ module _ {K : Type 0} (G : keepers.Ghosts K) where
   }
 
   module _ (most : ℕ) (first now : Responder K) (f : Flow) where
-    -- the floor is kept at each ending
+    -- the floor is kept at each ending, and the keeper did not begin to tell
     abbrev KeepsFloor : Type 0
-    KeepsFloor = G.floor now.desk.keeper ≡ G.floor first.desk.keeper
+    KeepsFloor = (G.floor now.desk.keeper ≡ G.floor first.desk.keeper)
+        × NeverBegins (G.told first.desk.keeper) (G.told now.desk.keeper)
 
     over_floor : (verdict : PipeVerdict) (bytes whole last : List ℕ)
         → ConsumerIsOver ghosts most first now f.source' bytes verdict whole last → KeepsFloor
-    over_floor verdicts.Whole bytes whole last (inl (closes, end, some)) = closes.1.floor
-    over_floor verdicts.Broken bytes whole last (inl (closes, end, some)) = closes.1.3.floor
+    over_floor verdicts.Whole bytes whole last (inl (closes, end, some)) = (closes.1.floor, closes.1.tells)
+    over_floor verdicts.Broken bytes whole last (inl (closes, end, some)) = (closes.1.3.floor, closes.1.3.tells)
     over_floor verdicts.Whole bytes whole last (inr (more, breaks, room)) = absurd breaks.1
-    over_floor verdicts.Broken bytes whole last (inr (more, breaks, room)) = breaks.1.1.2.floor
+    over_floor verdicts.Broken bytes whole last (inr (more, breaks, room)) = (breaks.1.1.2.floor, breaks.1.1.2.tells)
 
     part_floor : (bytes whole last : List ℕ)
         → ((verdict : PipeVerdict)
         × ConsumerIsOver ghosts most first now f.source' bytes verdict whole last)
         ⊎ PipeGave G first now bytes whole last → KeepsFloor
     part_floor bytes whole last (inl (verdict, over)) = over_floor verdict bytes whole last over
-    part_floor bytes whole last (inr (rest, inl has)) = has.floor
-    part_floor bytes whole last (inr (rest, inr (has, line))) = has.floor
+    part_floor bytes whole last (inr (rest, inl has)) = (has.floor, has.tells)
+    part_floor bytes whole last (inr (rest, inr (has, line))) = (has.floor, has.tells)
 
     lacks_floor : (bytes due : List ℕ) → PipeLacks G first now bytes due → KeepsFloor
-    lacks_floor bytes due (rest, inl has) = has.floor
-    lacks_floor bytes due (rest, inr (journal, (line, has))) = has.floor
+    lacks_floor bytes due (rest, inl has) = (has.floor, has.tells)
+    lacks_floor bytes due (rest, inr (journal, (line, has))) = (has.floor, has.tells)
 
     pub floor_of : (end : PipeEnd) → Ended ghosts most first now f end → KeepsFloor
     floor_of (ends.Over verdict) run =
         over_floor verdict run.taken run.ends.0 run.ends.1 run.ends.2
-    floor_of ends.ReadFault run = run.ends.1.2.floor
+    floor_of ends.ReadFault run = (run.ends.1.2.floor, run.ends.1.2.tells)
     floor_of ends.WriteFault run = part_floor run.taken run.ends.0 run.ends.1 run.ends.3
     floor_of ends.NoMemory run = lacks_floor run.taken run.ends.0 run.ends.1
-    floor_of ends.Long run = run.ends.1.2.floor
+    floor_of ends.Long run = (run.ends.1.2.floor, run.ends.1.2.tells)
 
   module _ (first now : Responder K) (f : Flow) (can : G.can_count (G.count first.desk.keeper))
     where

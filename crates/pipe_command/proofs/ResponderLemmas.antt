@@ -128,6 +128,7 @@ module _ {K : Type 0} (G : Ghosts K) (first : Responder K) where
   of_same old new bytes rest due pipe desk clock has = record {
     pipe = pipe ∙ has.pipe;
     floor = ap (λ d. G.floor d.keeper) desk ∙ has.floor;
+    tells = λ none. ap (λ d. G.told d.keeper) desk ∙ has.tells none;
     progress =
         subst (λ d. Progress G.can_count (start_with G first) bytes due (record {
           held = rest;
@@ -148,6 +149,7 @@ module _ {K : Type 0} (G : Ghosts K) (first : Responder K) where
   has_fed now bytes rest due piece has = record {
     pipe = has.pipe;
     floor = has.floor;
+    tells = has.tells;
     progress = Progress-fed G.can_count (start_with G first) bytes due piece
         (record (state_of_responder G now) { held = rest }) has.progress;
   }
@@ -179,6 +181,7 @@ module _ {K : Type 0} (G : Ghosts K) (first : Responder K) where
           (λ one. record {
             pipe = keeps.pipe ∙ before.pipe;
             floor = keeps.floor ∙ before.floor;
+            tells = λ none. keeps.tells (before.tells none);
             progress =
                 goes_on G.can_count (start_with G first) bytes due front Gives (state_of_responder G mid)
                 (state_of_responder G new)
@@ -232,7 +235,12 @@ module _ {K : Type 0} (G : Ghosts K) (first : Responder K) where
       → HasAnsweredLast G first now bytes rest whole last
       → HasAnswered G first now bytes rest (whole ++ last)
   whole_of now bytes rest whole last has =
-      record { pipe = has.pipe; floor = has.floor; progress = has.progress.progress }
+      record {
+        pipe = has.pipe;
+        floor = has.floor;
+        tells = has.tells;
+        progress = has.progress.progress;
+      }
 
   -- what is due with the first line, where that was given before
   pub owed : (now : Responder K) (bytes rest due : List ℕ) → IsTrue now.is_begun

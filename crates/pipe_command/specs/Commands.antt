@@ -17,14 +17,19 @@ use Rattle.command_loop.specs.Flow.{Flow}
 use Rattle.pipe_command.specs.declared.pipe.Pipe.{Pipe}
 use Rattle.pipe_command.specs.declared.command_words.Command.{Command}
 use Rattle.pipe_command.specs.declared.command_words.Command.TheVariants as commands
-use Rattle.plain_desk.specs.Openings.{opening_with}
+use Rattle.plain_desk.specs.Openings.{Opening, opening_with}
 use Rattle.pipe_command.specs.PipeRun as pipe
-use Rattle.pipe_command.specs.PlainRun.{from_nothing}
 
 -- a fact of a run of `pipe` or `trace`
 abbrev pub IfPipe : Command → (Pipe → Type 0) → Type 0
 IfPipe (commands.Pipe pipe) P = P pipe
 IfPipe command P = ⊤
+
+-- the command may have a PATH: `pipe`, `trace` or `drive`
+abbrev pub TakesPath : Command → Type 0
+TakesPath (commands.Pipe pipe) = ⊤
+TakesPath commands.Drive = ⊤
+TakesPath command = ⊥
 
 -- a fact of a load
 abbrev pub IfLoad : Command → (Load → Type 0) → Type 0
@@ -41,13 +46,25 @@ pub record Seen (S K : Type 0) : Type 0 where
   pub result : Ran K
 
 module _ {S K : Type 0} (G : Ghosts K) (seen : Seen S K) where
+  -- What a command with a PATH does where the history of its items begins so: `pipe` and `trace` are
+  -- one run, `drive` is one run of a page script, and has status 3 on no script.
+  abbrev pub DoesFrom : Opening → Command → Type 0
+  DoesFrom opening (commands.Pipe run) =
+      (end : pipe.PipeEnd) × (seen.result.status ≡ pipe.status_of_pipe end)
+      × pipe.IsRun G.can_count (record { pipe = run; opening = opening }) seen.flow
+      (G.told seen.result.keeper) (G.count seen.result.keeper) end
+  DoesFrom opening commands.Drive = (seen.result.status ≡ 3 → drive.TellsScript seen.flow.source → ⊥)
+      × ((end : drive.ScriptEnd) × (seen.result.status ≡ drive.status_of_script end)
+      × drive.IsDrive G.can_count (record { most = most_input; opening = opening }) seen.flow
+      (G.told seen.result.keeper) (G.count seen.result.keeper) end)
+  DoesFrom opening command = ⊥
+
   -- What each command does. `pipe` and `trace` are one run; `load` is one load, and reads nothing;
   -- `replay` is one replay; `drive` is one run of a page script, and has status 3 on no script;
   -- `id` reads nothing, and writes the identifier and a line feed.
   abbrev pub Does : Command → Type 0
-  Does (commands.Pipe run) = (end : pipe.PipeEnd) × (seen.result.status ≡ pipe.status_of_pipe end)
-      × pipe.IsRun G.can_count (from_nothing run) seen.flow
-      (G.told seen.result.keeper) (G.count seen.result.keeper) end
+  Does (commands.Pipe run) =
+      DoesFrom (opening_with run.first most_cookie) (commands.Pipe run)
   Does (commands.Load load) = (seen.source' ≡ seen.source)
       × IsLoad G.can_count load seen.flow.sink (record {
         status = seen.result.status;
@@ -59,11 +76,7 @@ module _ {S K : Type 0} (G : Ghosts K) (seen : Seen S K) where
       × ((end : replay.ReplayEnd) × (seen.result.status ≡ replay.status_of_replay end)
       × replay.IsReplay most_input seen.flow.source seen.flow.source' seen.flow.sink
       seen.flow.sink' end)
-  Does commands.Drive = (seen.result.status ≡ 3 → drive.TellsScript seen.flow.source → ⊥)
-      × ((end : drive.ScriptEnd) × (seen.result.status ≡ drive.status_of_script end)
-      × drive.IsDrive G.can_count
-      (record { most = most_input; opening = opening_with 1 most_cookie }) seen.flow
-      (G.told seen.result.keeper) (G.count seen.result.keeper) end)
+  Does commands.Drive = DoesFrom (opening_with 1 most_cookie) commands.Drive
   Does (commands.Id bytes) = (seen.source' ≡ seen.source) × (seen.result.keeper ≡ seen.keeper)
       × WritesLine seen.result.status 0 seen.flow.sink seen.flow.sink' (text_of bytes ++ 10 ∷ [])
 

@@ -5,7 +5,7 @@ use Rattle.asp_messages.specs.Stream.{HasNoMessage, IsHopeless}
 use Rattle.session_machine.specs.Profiles.{newest}
 use Rattle.journal_text.specs.WritingText.{journal_text}
 use Rattle.plain_desk.specs.DeskStands.{desk_state}
-use Rattle.plain_desk.specs.Openings.{opening_over}
+use Rattle.plain_desk.specs.Openings.{NeverBegins, opening_over}
 use Rattle.keeper.specs.declared.keeping.Keeper.{Ghosts}
 use Rattle.message_framing.specs.ReaderState.{ReaderState}
 use Rattle.command_loop.specs.Feeding.{Going, GoesOn, OverAnyhow, OverAtEnd}
@@ -92,12 +92,14 @@ module _ {K : Type 0} (G : Ghosts K) where
     pub is_begun : new.is_begun ≡ old.is_begun
     pub reader : new.stream.reader ≡ old.stream.reader
     pub floor : G.floor new.desk.keeper ≡ G.floor old.desk.keeper
+    pub tells : NeverBegins (G.told old.desk.keeper) (G.told new.desk.keeper)
 
   -- The bytes are messages that were answered and a rest, and the bytes that are owed are what a
   -- run of the messages writes.
   pub record HasAnswered (first now : Responder K) (bytes rest owed : List ℕ) : Type 0 where
     pub pipe : now.pipe ≡ first.pipe
     pub floor : G.floor now.desk.keeper ≡ G.floor first.desk.keeper
+    pub tells : NeverBegins (G.told first.desk.keeper) (G.told now.desk.keeper)
     pub progress : Progress G.can_count (start_with first) bytes owed
         (record (state_of_responder now) { held = rest })
 
@@ -106,6 +108,7 @@ module _ {K : Type 0} (G : Ghosts K) where
     where
       pub pipe : now.pipe ≡ first.pipe
       pub floor : G.floor now.desk.keeper ≡ G.floor first.desk.keeper
+      pub tells : NeverBegins (G.told first.desk.keeper) (G.told now.desk.keeper)
       pub progress : ProgressLast G.can_count (start_with first) bytes whole last
           (record (state_of_responder now) { held = rest })
 

@@ -1,7 +1,7 @@
 //! The words of a command.
 ghost use Rattle.std.specs.Prelude.{◌≡◌, ◌∷◌, [], map, string_bytes, IfSome};
 ghost use Rattle.load_generator.specs.LoadRunning.{LoadFits};
-ghost use Rattle.pipe_command.specs.Commands.{IfLoad, IfPipe};
+ghost use Rattle.pipe_command.specs.Commands.{IfLoad, IfPipe, TakesPath};
 ghost use Rattle.pipe_command.specs.PipeRun.{PipeFits};
 ghost use Rattle.pipe_command.specs.CommandWords.{command_of, id_of, load_of, pipe_of, run_of, single_of};
 
@@ -37,6 +37,7 @@ pub enum Command {
 fn run_of(journal: bool, start: &str, step: &str, first: &str) -> Option<Command>
     ensures fits { IfSome result (λ command. IfPipe command PipeFits) }
     ensures load { IfSome result (λ command. IfLoad command (λ load. ⊥)) }
+    ensures only { IfSome result TakesPath }
     ensures value { result ≡ run_of journal start.now step.now first.now }
 {
     let start = read_number(start.as_bytes(), LAST_MOMENT)?;
@@ -59,6 +60,7 @@ fn run_of(journal: bool, start: &str, step: &str, first: &str) -> Option<Command
 pub fn pipe_named(name: &str, start: &str, step: &str, first: &str) -> Option<Command>
     ensures fits { IfSome result (λ command. IfPipe command PipeFits) }
     ensures load { IfSome result (λ command. IfLoad command (λ load. ⊥)) }
+    ensures only { IfSome result TakesPath }
     ensures value { result ≡ pipe_of (name.now ∷ start.now ∷ step.now ∷ first.now ∷ []) }
 {
     if name == "pipe" {

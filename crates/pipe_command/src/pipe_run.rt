@@ -4,7 +4,7 @@ ghost use Rattle.asp_base.specs.Causes.{Rose};
 ghost use Rattle.keeper.specs.Items.{IsEmptyTold};
 ghost use Rattle.stream_core.specs.Whole.{IsWholeInput};
 ghost use Rattle.command_loop.specs.Flow.{flow};
-ghost use Rattle.plain_desk.specs.Openings.{HasFreshCookies, cookies_of, opening_over};
+ghost use Rattle.plain_desk.specs.Openings.{HasFreshCookies, NeverBegins, cookies_of, opening_over};
 ghost use Rattle.pipe_command.specs.PlainRun.{from_nothing};
 ghost use Rattle.pipe_command.specs.PipeRun.{PipeEnd, PipeFits, IsRun, status_of_pipe};
 
@@ -54,6 +54,7 @@ pub fn run_pipe_over<S: Source, T: Sink, K: Keeper>(
         → (Rose (T.faults sink.old) (T.faults sink.new) → ⊥)
         → (result.status ≡ 0) ⊎ (result.status ≡ 6) }
     ensures floor { K.floor result.keeper ≡ K.floor keeper }
+    ensures tells { NeverBegins (K.told keeper) (K.told result.keeper) }
 {
     let mut responder = Responder::new(alloc, pipe, keeper, cookies);
     let end = run(pipe.most, &mut responder, source, sink);
@@ -93,6 +94,7 @@ pub fn run_pipe<S: Source, T: Sink, K: Keeper>(
         → (Rose (T.faults sink.old) (T.faults sink.new) → ⊥)
         → (result.status ≡ 0) ⊎ (result.status ≡ 6) }
     ensures floor { K.floor result.keeper ≡ K.floor keeper }
+    ensures tells { NeverBegins (K.told keeper) (K.told result.keeper) }
 {
     let cookies = PlainCookies::new(pipe.first, MOST_COOKIE);
     run_pipe_over(alloc, pipe, source, sink, keeper, Some(cookies))

@@ -6,7 +6,11 @@ use Rattle.session_machine.specs.declared.item.Item.{Item}
 use Rattle.session_machine.specs.History.{IsHeldBelow, nothing}
 use Rattle.keeper.specs.declared.keeping.Keeper.{Ghosts}
 use Rattle.keeper.specs.Items.{IsEmptyTold}
-use Rattle.plain_desk.specs.Openings.{Opening, HasFreshCookies, opening_over, told_items}
+use Rattle.asp_messages.specs.declared.reply.Reply.{Reply}
+use Rattle.asp_messages.specs.declared.request.Request.{Request}
+use Rattle.session_machine.specs.Machine.{Circumstances}
+use Rattle.shard_core.specs.Acting.{TellsStep}
+use Rattle.plain_desk.specs.Openings.{Opening, HasFreshCookies, NeverBegins, opening_over, told_items}
 
 no_items : (told : Option (List ℕ → Option Item)) → IsEmptyTold told → told_items told ≡ nothing
 no_items None empty = refl
@@ -34,3 +38,11 @@ pub fresh-empty : {K : Type 0} (G : Ghosts K) (keeper : K) (cookies : Counter)
 fresh-empty G keeper cookies empty left key =
     subst (λ (items : List ℕ → Option Item). IsHeldBelow cookies.next (items key))
     (sym (no_items (G.told keeper) empty)) tt
+
+-- ---- a keeper never begins to tell
+
+pub never-steps : (old new : Option (List ℕ → Option Item)) (r : Request) (at : Circumstances)
+    (reply : Reply) → TellsStep old new r at reply → NeverBegins old new
+never-steps (Some old) new r at reply steps is = absurd (cc is)
+never-steps None None r at reply steps is = refl
+never-steps None (Some new) r at reply steps is = absurd steps

@@ -1,5 +1,5 @@
 -- How a history begins that a desk stands for: with items, with a count of faults, and with cookies.
-use Rattle.std.specs.Prelude.{ℕ, ◌≤◌, List, Option, Some, None}
+use Rattle.std.specs.Prelude.{◌≡◌, ℕ, ◌≤◌, List, Option, Some, None}
 use Rattle.cookie_source.specs.Counting.{Counter, no_cookies}
 use Rattle.session_machine.specs.declared.entry.Entry.{Entry}
 use Rattle.session_machine.specs.declared.item.Item.{Item}
@@ -22,6 +22,10 @@ told_items (Some items) = items
 abbrev pub cookies_of : Option Counter → Counter
 cookies_of None = no_cookies
 cookies_of (Some cookies) = cookies
+
+-- a keeper that told nothing tells nothing after
+abbrev pub NeverBegins : Option (List ℕ → Option Item) → Option (List ℕ → Option Item) → Type 0
+NeverBegins old new = old ≡ None → new ≡ None
 
 -- how a history over a keeper of the type begins, with these cookies
 abbrev pub opening_over : {K : Type 0} → Ghosts K → K → Counter → Opening

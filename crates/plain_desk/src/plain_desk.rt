@@ -10,7 +10,7 @@ ghost use Rattle.shard_core.specs.ShardStands.{CountsFault, NoFewerFaults, asked
 ghost use Rattle.shard_core.specs.Sweeping.{HasDue, swept_entry};
 ghost use Rattle.plain_desk.specs.Draws.{CookiesFit, DrawsNext, draw_of, draws_in};
 ghost use Rattle.plain_desk.specs.DeskStands.{HasHistory};
-ghost use Rattle.plain_desk.specs.Openings.{HasFreshCookies, HasHistoryFrom, cookies_of, opening_over};
+ghost use Rattle.plain_desk.specs.Openings.{HasFreshCookies, HasHistoryFrom, NeverBegins, cookies_of, opening_over};
 
 use asp_messages::{Ask, Reply, Request};
 use cookie_source::PlainCookies;
@@ -122,6 +122,7 @@ impl<K: Keeper> PlainDesk<K> {
             → CountsFault ⟦<K as Keeper>⟧ self.old.keeper self.new.keeper }
         ensures count { NoFewerFaults ⟦<K as Keeper>⟧ self.old.keeper self.new.keeper }
         ensures floor { K.floor self.new.keeper ≡ K.floor self.old.keeper }
+        ensures tells { NeverBegins (K.told self.old.keeper) (K.told self.new.keeper) }
     {
         let drawn = draw_for(&mut self.cookies, &request.ask);
         let reply = self.shard.act(request, t, drawn);

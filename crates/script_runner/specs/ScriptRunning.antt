@@ -6,7 +6,7 @@ use Rattle.page_script.specs.declared.script.Script.{Script}
 use Rattle.page_script.specs.Lines.{most_script_line}
 use Rattle.page_script.specs.World.{World, IsWorldRun, WorldStep}
 use Rattle.page_script.specs.ScriptStands.{ScriptStands, keeper_of, opening_of}
-use Rattle.plain_desk.specs.Openings.{Opening}
+use Rattle.plain_desk.specs.Openings.{NeverBegins, Opening}
 use Rattle.plain_words.specs.Words.{HasNo}
 use Rattle.script_runner.specs.declared.driver.Driver.{Driver}
 use Rattle.script_runner.specs.declared.script_verdict.ScriptVerdict.{ScriptVerdict}
@@ -43,9 +43,10 @@ module _ {K : Type 0} (G : Ghosts K) where
     pub step : WorldStep middle last world printed
     pub stands : ScriptStands G script world
 
-  -- no cookie may be drawn below the same number
+  -- no cookie may be drawn below the same number, and the keeper did not begin to tell
   abbrev pub KeepsFloor : Driver K → Driver K → Type 0
-  KeepsFloor start now = G.floor (keeper_of now.script) ≡ G.floor (keeper_of start.script)
+  KeepsFloor start now = (G.floor (keeper_of now.script) ≡ G.floor (keeper_of start.script))
+      × NeverBegins (G.told (keeper_of start.script)) (G.told (keeper_of now.script))
 
   -- ---- a script as a consumer
 

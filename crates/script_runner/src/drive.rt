@@ -4,7 +4,7 @@ ghost use Rattle.asp_base.specs.Causes.{Rose};
 ghost use Rattle.asp_base.specs.Limits.{most_input};
 ghost use Rattle.asp_messages.specs.Fields.{most_cookie};
 ghost use Rattle.keeper.specs.Items.{IsEmptyTold};
-ghost use Rattle.plain_desk.specs.Openings.{HasFreshCookies, cookies_of, opening_over, opening_with};
+ghost use Rattle.plain_desk.specs.Openings.{HasFreshCookies, NeverBegins, cookies_of, opening_over, opening_with};
 ghost use Rattle.script_runner.specs.Drive.{ScriptEnd, IsDrive, TellsScript, TellsFewer, status_of_script};
 ghost use Rattle.command_loop.specs.Flow.{flow};
 
@@ -57,6 +57,7 @@ pub fn run_drive_over<S: Source, T: Sink, K: Keeper>(
         → (Rose (T.faults sink.old) (T.faults sink.new) → ⊥) → (result.status ≡ 0)
         ⊎ (result.status ≡ 6) }
     ensures floor { K.floor result.keeper ≡ K.floor keeper }
+    ensures tells { NeverBegins (K.told keeper) (K.told result.keeper) }
 {
     let mut driver = Driver {
         held: HeldLines::new(alloc),
@@ -101,6 +102,7 @@ pub fn run_drive<S: Source, T: Sink, K: Keeper>(
         → (Rose (T.faults sink.old) (T.faults sink.new) → ⊥) → (result.status ≡ 0)
         ⊎ (result.status ≡ 6) }
     ensures floor { K.floor result.keeper ≡ K.floor keeper }
+    ensures tells { NeverBegins (K.told keeper) (K.told result.keeper) }
 {
     let cookies = PlainCookies::new(1, MOST_COOKIE);
     run_drive_over(alloc, most, source, sink, keeper, Some(cookies))

@@ -39,8 +39,17 @@ returns-clause-complete g c = λ whole read write.
 pub returns-clause-floor : goal.returns-clause-floor
 returns-clause-floor g c =
     ap g.K.Keeper.floor c.into_keeper.ensures
-    ∙ floor_of g.K.Keeper c.args.pipe.most c.new-responder.result c.run-end.new.consumer
+    ∙ (floor_of g.K.Keeper c.args.pipe.most c.new-responder.result c.run-end.new.consumer
     (flow (g.S.Source.told c.args.source.now) (g.S.Source.told c.run-end.new.source)
     (g.T.Sink.taken c.args.sink.now) (g.T.Sink.taken c.run-end.new.sink))
-    c.run-end.result c.run-end.ensures.ran
+    c.run-end.result c.run-end.ensures.ran).0
     ∙ ap g.K.Keeper.floor c.new-responder.ensures.keeper
+
+pub returns-clause-tells : goal.returns-clause-tells
+returns-clause-tells g c = λ none.
+    ap g.K.Keeper.told c.into_keeper.ensures
+    ∙ (floor_of g.K.Keeper c.args.pipe.most c.new-responder.result c.run-end.new.consumer
+    (flow (g.S.Source.told c.args.source.now) (g.S.Source.told c.run-end.new.source)
+    (g.T.Sink.taken c.args.sink.now) (g.T.Sink.taken c.run-end.new.sink))
+    c.run-end.result c.run-end.ensures.ran).1
+    (ap g.K.Keeper.told c.new-responder.ensures.keeper ∙ none)

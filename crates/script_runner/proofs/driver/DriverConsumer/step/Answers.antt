@@ -18,7 +18,10 @@ returns-in-Done-clause-did g c = λ is first taken due went.
     c.in-Some.ensures.line.1)
     c.clear.new.self.items c.line.new.out.items c.clear.ensures.items
     (c.in-Done.ensures.done refl) in
-    let floor = c.line.ensures.floor ∙ went.1 in (
+    let floor = (
+      c.line.ensures.floor ∙ went.1.0,
+      λ none. c.line.ensures.tells (went.1.1 none),
+    ) in (
       (
         HasRun-last g.K.Keeper (opening_of g.K.Keeper first.script) c.line.new.self taken c.take_line.new.self due
             (c.line.new.out.items ++ []) last,
@@ -42,7 +45,7 @@ returns-in-NotALine-clause-over g c = λ first taken due went.
     (c.in-NotALine.ensures.unchanged refl) (c.in-NotALine.ensures.not_a_line refl) in (
       append-nil c.line.new.out.items ∙ c.in-NotALine.ensures.same (λ is. cc)
           ∙ c.clear.ensures.items,
-      c.line.ensures.floor ∙ went.1,
+      (c.line.ensures.floor ∙ went.1.0, λ none. c.line.ensures.tells (went.1.1 none)),
       (wrong.0, inl wrong.1),
     )
 
@@ -52,8 +55,7 @@ returns-in-NoMemory-clause-no_memory g c = λ is first taken due went.
     let run =
     subst (λ h. HasRun g.K.Keeper (opening_of g.K.Keeper first.script) c.args.self.now.script taken h due)
     (sym c.first_line.ensures.same) went.0 in (
-      c.line.ensures.floor
-          ∙ went.1,
+      (c.line.ensures.floor ∙ went.1.0, λ none. c.line.ensures.tells (went.1.1 none)),
       line_lacks g.K.Keeper (opening_of g.K.Keeper first.script) c.args.self.now.script c.line.new.self taken held
           (take c.in-Some.len c.as_slice.result.now) (drop (c.in-Some.len + 1) held) due run
           (split_of g.K.Keeper c.args.self.now.held held c.as_slice.result.now
