@@ -6,7 +6,7 @@ use asp_base::{Sink, Source};
 use keeper::KeepError;
 use pipe_command::command;
 use sqlite::{Connection, Error, ErrorCode, File, FileStore};
-use sqlite_keeper::SqliteKeeper;
+use sqlite_keeper::{SqliteKeeper, UntoldKeeper};
 
 /// The keeper of the items in the file at the path, which is made where it is absent. An error is
 /// the status.
@@ -37,8 +37,9 @@ pub fn run_stored<S: Source, T: Sink>(
         Ok(keeper) => keeper,
         Err(status) => return status,
     };
+    let keeper = UntoldKeeper::new(keeper);
     let ran = command(rt.alloc(), words, source, sink, keeper);
     // Where the file can't be closed, the log beside it keeps what was written.
-    let _closed = ran.keeper.into_connection().close();
+    let _closed = ran.keeper.into_keeper().into_connection().close();
     ran.status
 }

@@ -2,7 +2,7 @@
 use asp_base::{Bytes, MemorySink, MemorySource};
 use pipe_command::command;
 use sqlite::{Connection, MemStore};
-use sqlite_keeper::SqliteKeeper;
+use sqlite_keeper::{SqliteKeeper, UntoldKeeper};
 use std::alloc::Global;
 use std::test::Fail;
 
@@ -33,12 +33,12 @@ fn run_over(
     let Ok(mut sink) = MemorySink::new(alloc, 16_384, 16_384, Vec::new(alloc)) else {
         return Err("no memory".into());
     };
-    let keeper = SqliteKeeper::over(alloc, database)?;
+    let keeper = UntoldKeeper::new(SqliteKeeper::over(alloc, database)?);
     let ran = command(alloc, &words, &mut source, &mut sink, keeper);
     if ran.status != 0 {
         return Err("the run has another status".into());
     }
-    Ok((sink, ran.keeper.into_connection()))
+    Ok((sink, ran.keeper.into_keeper().into_connection()))
 }
 
 #[test]

@@ -1,7 +1,8 @@
 //! The move of the rows of `items`, which the program made before items had an end, to `items2`.
 use crate::failure::Failure;
-use crate::{rows, statements};
+use crate::rows;
 use sqlite::{Alter, Connection};
+use sqlite_rows::{drop_row, first_row, move_row};
 
 /// How many rows are moved at most, so that the move ends.
 const MOST_MOVES: u64 = 1_099_511_627_776;
@@ -10,13 +11,13 @@ const MOST_MOVES: u64 = 1_099_511_627_776;
 ///
 /// It is written to `items2` where no row has its key there, and only then removed from `items`.
 fn move_first<S: Alter>(connection: &mut Connection<S>) -> Result<bool, Failure> {
-    let Some(row) = statements::first_row(connection)? else {
+    let Some(row) = first_row(connection)? else {
         return Ok(false);
     };
     let key = rows::key(&row, rows::OLD_KEY)?;
     let item = rows::old_item(&row)?;
-    statements::move_row(connection, &rows::columns(&key, &item))?;
-    statements::drop_row(connection, key.as_slice())?;
+    move_row(connection, &rows::columns(&key, &item))?;
+    drop_row(connection, key.as_slice())?;
     Ok(true)
 }
 
@@ -28,7 +29,7 @@ pub(crate) fn move_rows<S: Alter>(connection: &mut Connection<S>) -> Result<(), 
             return Ok(());
         }
     }
-    match statements::first_row(connection)? {
+    match first_row(connection)? {
         Some(_) => Err(Failure::TooManyRows),
         None => Ok(()),
     }

@@ -1,0 +1,7 @@
+pub mod BlockLemmas
+pub mod CallLemmas
+pub mod DueLemmas
+pub mod ItemLemmas
+pub mod KeepLemmas
+pub mod OpenLemmas
+pub mod SaysLemmas
