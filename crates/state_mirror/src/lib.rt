@@ -1,6 +1,9 @@
 //! Journals of shards, written in the order of their places and read back.
 #![tactic(auto)]
 
+mod listing;
+mod mirror;
 mod order;
 
+pub use mirror::{Mirror, MirrorNext};
 pub use order::{Handed, Order, Stop};
