@@ -1,0 +1,3 @@
+pub mod Farm
+pub mod FarmStands
+pub mod Shares
