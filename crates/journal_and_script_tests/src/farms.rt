@@ -101,22 +101,36 @@ fn a_name_is_in_use_on_each_server(rt: HostRuntime) -> Result<(), Fail> {
 #[test]
 fn limits_are_for_each_server(rt: HostRuntime) -> Result<(), Fail> {
     let text = "limits 110 500 1
-page a x2f73 exclusive keep
+page a x2f73 exclusive save 20 x31
 page b x2f73 exclusive keep
-page c x2f72 exclusive keep
-page d x2f72 exclusive keep
+page c x2f73 exclusive keep
+page d x2f72 exclusive save 20 x31
+page e x2f72 exclusive keep
+page f x2f72 exclusive keep
+step 0 a
+step 0 a
 step 0 a
 step 0 b
-step 0 b
+step 0 c
 step 0 c
 step 0 d
-step 0 d";
+step 0 d
+step 0 d
+step 0 e
+step 0 f
+step 0 f";
     let printed = "1 0 a acquire : missing
-1 0 b acquire : missing
-1 0 b run none
-0 0 c acquire : missing
+1 0 a run none
+1 0 a write 0 20 0 x31 : done
+1 0 b acquire : found 2 20 0 x31
+1 0 c acquire : locked 2 0
+1 0 c over gave-up 2 0
 0 0 d acquire : missing
 0 0 d run none
+0 0 d write 0 20 0 x31 : done
+0 0 e acquire : found 2 20 0 x31
+0 0 f acquire : locked 2 0
+0 0 f over gave-up 2 0
 ";
     let (end, out) = run_over(rt.alloc(), 2, text)?;
     assert_eq!(rt; end, LineEnd::Done);
