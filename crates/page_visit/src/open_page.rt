@@ -9,8 +9,8 @@ ghost use Rattle.page_visit.specs.Underway.{PageEnds, PageGoesOn, PageMayAct};
 
 use asp_base::{Bytes, NoMemory};
 use asp_messages::Request;
-use plain_desk::PlainDesk;
 use keeper::Keeper;
+use plain_desk::PlainDesk;
 use std::alloc::Global;
 use visit_core::{Act, Ending, Heard, Outcome, Visit};
 

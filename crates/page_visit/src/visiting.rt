@@ -8,8 +8,8 @@ ghost use Rattle.page_visit.specs.Underway.{PageComesTo, PageIsCut};
 
 use crate::open_page::OpenPage;
 use asp_base::{Bytes, NoMemory};
-use plain_desk::PlainDesk;
 use keeper::Keeper;
+use plain_desk::PlainDesk;
 use std::alloc::Global;
 use visit_core::{Ending, Limits, Need, Outcome, Visit};
 
