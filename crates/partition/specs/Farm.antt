@@ -3,7 +3,9 @@ use Rattle.std.specs.Prelude.{◌≡◌, ℕ, ◌<◌, List, [], ◌∷◌, ◌+
 use Rattle.std.specs.List.{AllByRecursion}
 use Rattle.placement.specs.Placement.{server_of_key}
 use Rattle.page_script.specs.declared.line.Line.{Line}
-use Rattle.page_script.specs.World.{World, WorldTurn, WorldStep, IsWorldRun, empty_world}
+use Rattle.asp_messages.specs.Fields.{most_cookie}
+use Rattle.plain_desk.specs.Openings.{Opening, opening_with}
+use Rattle.page_script.specs.World.{World, WorldTurn, WorldStep, IsWorldRun, world_from}
 use Rattle.partition.specs.Shares.{EachFollows, MayFollow, homes_in, is_for, share}
 
 -- What a step prints: the number of the server of its page, and the line that it prints there.
@@ -36,9 +38,13 @@ pub record FarmRun : Type 0 where
   pub worlds : ℕ → World
   pub printed : List FarmLine
 
+-- how the history of each server begins: with no items, and with the cookies from 1 on
+abbrev pub server_opening : Opening
+server_opening = opening_with 1 most_cookie
+
 -- a farm before the first line
 abbrev pub empty_run : FarmRun
-empty_run = record { script = []; worlds = λ server. empty_world; printed = [] }
+empty_run = record { script = []; worlds = λ server. world_from server_opening; printed = [] }
 
 -- the requests of a server are for keys of its own
 abbrev pub OwnKeys : ℕ → ℕ → List WorldTurn → Type 0
@@ -51,7 +57,7 @@ OwnKeys servers server turns =
 pub record IsFarmRun (servers : ℕ) (run : FarmRun) : Type 0 where
   pub follow : EachFollows servers [] run.script
   pub shares : (server : ℕ) → server < servers
-      → IsWorldRun (share servers run.script server) (run.worlds server)
+      → IsWorldRun server_opening (share servers run.script server) (run.worlds server)
       (text_of server run.printed)
   pub order : map server_of_line run.printed ≡ homes_in servers run.script run.script
   pub ends : AllByRecursion (λ (line : FarmLine). EndsLine line.text) run.printed

@@ -1,8 +1,10 @@
 //! A page script over several servers: one script of pages for each of them.
-ghost use Rattle.std.specs.Prelude.{◌≡◌, ◌≤◌, ◌<◌, ◌++◌, ◌∷◌, [], ℕ, decimal, length, MatchOption, OnOk, OnErr};
+ghost use Rattle.std.specs.Prelude.{◌≡◌, ◌≤◌, ◌<◌, ◌++◌, ◌∷◌, [], ℕ, decimal, length, MatchOption, OnOk, OnErr, ⊤};
 ghost use Rattle.asp_messages.specs.Appending.{Extends};
 ghost use Rattle.page_script.specs.World.{World, HasName};
 ghost use Rattle.partition.specs.FarmStands.{ScriptsStand};
+ghost use Rattle.partition.specs.Limited.{limited};
+ghost use Rattle.visit_core.specs.Terms.{LimitsFit};
 
 use asp_base::NoMemory;
 use asp_messages::{or_undo, push, push_number};
@@ -34,10 +36,11 @@ fn push_server(out: &mut Vec<u8>, server: usize) -> Result<(), NoMemory>
 
 /// The server that has a page of this name.
 fn server_with<K: Keeper>(scripts: &[Script<K>], name: &Name) -> Option<usize>
-    ensures { (worlds : ℕ → World) → ScriptsStand ⟦<K as Keeper>⟧ 0 scripts.now worlds
+    ensures { (worlds : ℕ → World) → ScriptsStand ⟦<K as Keeper>⟧ scripts.now worlds
         → MatchOption result
         ((server : ℕ) → server < length scripts.now → HasName (worlds server).pages name.now → ⊥)
-        (λ server. (server < length scripts.now) × HasName (worlds server).pages name.now) }
+        (λ server. HasName (worlds server).pages name.now) }
+    ensures inside { MatchOption result ⊤ (λ server. server < length scripts.now) }
 {
     for (server, script) in scripts.iter().enumerate() {
         if script.has_page(name) {
@@ -47,12 +50,27 @@ fn server_with<K: Keeper>(scripts: &[Script<K>], name: &Name) -> Option<usize>
     None
 }
 
+/// The limits of the pages to come, on each server.
+fn limit_each<K: Keeper>(scripts: &mut [Script<K>], limits: Limits)
+    requires { LimitsFit limits }
+    ensures limited { (worlds : ℕ → World) → ScriptsStand ⟦<K as Keeper>⟧ scripts.old worlds
+        → ScriptsStand ⟦<K as Keeper>⟧ scripts.new (λ server. limited limits (worlds server)) }
+    ensures count { length scripts.new ≡ length scripts.old }
+{
+    for script in scripts.iter_mut() {
+        script.set_limits(limits);
+    }
+}
+
 impl<K: Keeper> FarmScript<K> {
     ghost use Rattle.std.specs.Prelude.{◌≤◌, ◌^◌, All, IfOk};
     ghost use Rattle.keeper.specs.Items.{IsEmptyTold};
+    ghost use Rattle.page_script.specs.declared.line.Line.{Line};
+    ghost use Rattle.page_script.specs.Lines.{LineFits, PageFits};
     ghost use Rattle.page_script.specs.ScriptStands.{IsAppended};
     ghost use Rattle.partition.specs.Farm.{empty_run};
-    ghost use Rattle.partition.specs.FarmStands.{EachRun, EachRunTakesText, EachRunMayTakeText, NoRunTakesText, FarmIsOver, FarmStands, servers_of};
+    ghost use Rattle.partition.specs.FarmStands.{EachRunStays, EachRunTakes, EachRunMayTake, NoRunTakes};
+    ghost use Rattle.partition.specs.FarmStands.{EachRunTakesText, EachRunMayTakeText, NoRunTakesText, FarmIsOver, FarmStands, servers_of};
 
     /// A script with no pages over 1 to 64 keepers with no items, one for each server, whose
     /// cookies begin at 1. After `NoMemory` the keepers are dropped.
@@ -84,14 +102,29 @@ impl<K: Keeper> FarmScript<K> {
     }
 
     /// The limits of the pages to come, on each server.
-    fn set_limits(&mut self, limits: Limits) {
-        for script in &mut self.scripts {
-            script.set_limits(limits);
-        }
+    fn set_limits(&mut self, limits: Limits)
+        requires { LimitsFit limits }
+        ensures takes { EachRunTakes ⟦<K as Keeper>⟧ self.old self.new (Line.Limits limits)
+            (λ printed. printed ≡ []) }
+        ensures servers { servers_of self.new ≡ servers_of self.old }
+        ensures is_over { self.new.is_over ≡ self.old.is_over }
+    {
+        limit_each(&mut self.scripts, limits);
     }
 
     /// A new page, on the server of its key.
-    fn add_page(&mut self, page: PageLine) -> LineEnd {
+    fn add_page(&mut self, page: PageLine) -> LineEnd
+        requires { PageFits page }
+        ensures done { result ≡ LineEnd.Done → EachRunTakes ⟦<K as Keeper>⟧ self.old self.new
+            (Line.Page page) (λ printed. printed ≡ []) }
+        ensures not_a_line { result ≡ LineEnd.NotALine
+            → NoRunTakes ⟦<K as Keeper>⟧ self.old (Line.Page page) }
+        ensures unchanged { result ≡ LineEnd.NotALine → self.new ≡ self.old }
+        ensures no_memory { result ≡ LineEnd.NoMemory
+            → EachRunStays ⟦<K as Keeper>⟧ self.old self.new }
+        ensures servers { servers_of self.new ≡ servers_of self.old }
+        ensures is_over { self.new.is_over ≡ self.old.is_over }
+    {
         if server_with(&self.scripts, &page.name).is_some() || self.pages >= MOST_PAGES {
             return LineEnd::NotALine;
         }
@@ -104,7 +137,19 @@ impl<K: Keeper> FarmScript<K> {
     }
 
     /// One step of the page of this name, with the number of its server in front of what it prints.
-    fn step(&mut self, moment: u64, name: Name, out: &mut Vec<u8>) -> LineEnd {
+    fn step(&mut self, moment: u64, name: Name, out: &mut Vec<u8>) -> LineEnd
+        requires { moment ≤ 2 ^ 62 }
+        ensures done { result ≡ LineEnd.Done → EachRunTakes ⟦<K as Keeper>⟧ self.old self.new
+            (Line.Step moment name) (IsAppended out.old.items out.new.items) }
+        ensures not_a_line { result ≡ LineEnd.NotALine
+            → NoRunTakes ⟦<K as Keeper>⟧ self.old (Line.Step moment name) }
+        ensures unchanged { result ≡ LineEnd.NotALine → self.new ≡ self.old }
+        ensures no_memory { result ≡ LineEnd.NoMemory
+            → EachRunMayTake ⟦<K as Keeper>⟧ self.old self.new (Line.Step moment name) }
+        ensures same { (result ≡ LineEnd.Done → ⊥) → out.new.items ≡ out.old.items }
+        ensures servers { servers_of self.new ≡ servers_of self.old }
+        ensures is_over { self.new.is_over ≡ self.old.is_over }
+    {
         let Some(server) = server_with(&self.scripts, &name) else {
             return LineEnd::NotALine;
         };
@@ -121,7 +166,18 @@ impl<K: Keeper> FarmScript<K> {
     }
 
     /// One line.
-    fn run(&mut self, line: Line, out: &mut Vec<u8>) -> LineEnd {
+    fn run(&mut self, line: Line, out: &mut Vec<u8>) -> LineEnd
+        requires { LineFits line }
+        ensures done { result ≡ LineEnd.Done → EachRunTakes ⟦<K as Keeper>⟧ self.old self.new
+            line (IsAppended out.old.items out.new.items) }
+        ensures not_a_line { result ≡ LineEnd.NotALine
+            → NoRunTakes ⟦<K as Keeper>⟧ self.old line }
+        ensures unchanged { result ≡ LineEnd.NotALine → self.new ≡ self.old }
+        ensures no_memory { result ≡ LineEnd.NoMemory
+            → EachRunMayTake ⟦<K as Keeper>⟧ self.old self.new line }
+        ensures same { (result ≡ LineEnd.Done → ⊥) → out.new.items ≡ out.old.items }
+        ensures servers { servers_of self.new ≡ servers_of self.old }
+    {
         match line {
             Line::Limits(limits) => {
                 self.set_limits(limits);
@@ -158,12 +214,17 @@ impl<K: Keeper> FarmScript<K> {
         if self.is_over {
             return LineEnd::NoMemory;
         }
-        let end = match read_line(self.alloc, text) {
-            Ok(Some(line)) => self.run(line, out),
+        match read_line(self.alloc, text) {
+            Ok(Some(line)) => {
+                let end = self.run(line, out);
+                self.is_over = end == LineEnd::NoMemory;
+                end
+            }
             Ok(None) => LineEnd::NotALine,
-            Err(NoMemory) => LineEnd::NoMemory,
-        };
-        self.is_over = end == LineEnd::NoMemory;
-        end
+            Err(NoMemory) => {
+                self.is_over = true;
+                LineEnd::NoMemory
+            }
+        }
     }
 }
