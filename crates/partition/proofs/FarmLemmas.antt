@@ -4,9 +4,9 @@ use Rattle.std.specs.Prelude.{◌==◌, map}
 use Rattle.std.specs.List.{AllByRecursion}
 use Rattle.std.proofs.lemmas.List.{map-append}
 use Rattle.page_script.specs.declared.line.Line.{Line}
-use Rattle.page_script.specs.World.{World, WorldStep, IsWorldRun, empty_world}
+use Rattle.page_script.specs.World.{World, WorldStep, IsWorldRun, world_from}
 use Rattle.page_script.proofs.RunLemmas.{Leads-push}
-use Rattle.partition.specs.Farm.{FarmLine, FarmRun, FarmStep, IsFarmRun, EndsLine, OwnKeys, ServerTakes, farm_text, server_of_line, text_of}
+use Rattle.partition.specs.Farm.{FarmLine, FarmRun, FarmStep, IsFarmRun, server_opening, EndsLine, OwnKeys, ServerTakes, farm_text, server_of_line, text_of}
 use Rattle.partition.specs.Shares.{EachFollows, homes_in, is_for, share}
 use Rattle.partition.proofs.ShareLemmas.{EachFollows-push, homes_in-push, share-push}
 
@@ -29,14 +29,14 @@ All-append P (x ∷ xs) ys all more = (all.0, All-append P xs ys all.1 more)
 
 -- the run of one server's share goes on by a line that is for it, or stays
 share-goes_on : (b : Bool) (script : List Line) (line : Line) (world world' : World)
-    (output text : List ℕ) → IsWorldRun script world output → ServerTakes b world line world' text
-    → IsWorldRun (script ++ cond b (line ∷ []) []) world' (output ++ text)
+    (output text : List ℕ) → IsWorldRun server_opening script world output → ServerTakes b world line world' text
+    → IsWorldRun server_opening (script ++ cond b (line ∷ []) []) world' (output ++ text)
 share-goes_on true script line world world' output text run step =
-    Leads-push empty_world world world' script line output text run step
+    Leads-push (world_from server_opening) world world' script line output text run step
 share-goes_on false script line world world' output text run step =
-    subst (λ s. IsWorldRun s world' (output ++ text)) (sym (append-nil script))
-    (subst (λ w. IsWorldRun script w (output ++ text)) (sym step.0)
-    (subst (IsWorldRun script world) (sym (ap (λ t. output ++ t) step.1 ∙ append-nil output)) run))
+    subst (λ s. IsWorldRun server_opening s world' (output ++ text)) (sym (append-nil script))
+    (subst (λ w. IsWorldRun server_opening script w (output ++ text)) (sym step.0)
+    (subst (IsWorldRun server_opening script world) (sym (ap (λ t. output ++ t) step.1 ∙ append-nil output)) run))
 
 pub IsFarmRun-push : (n : ℕ) (run run' : FarmRun) (line : Line) (printed : List FarmLine)
     → IsFarmRun n run → FarmStep n run line run' printed
@@ -48,9 +48,9 @@ IsFarmRun-push n run run' line printed is step order ends own = record {
   follow = subst (λ s. EachFollows n [] s) (sym step.script)
       (EachFollows-push n [] run.script line is.follow step.follows);
   shares = λ server below. (
-    subst (λ out. IsWorldRun (share n run'.script server) (run'.worlds server) out)
+    subst (λ out. IsWorldRun server_opening (share n run'.script server) (run'.worlds server) out)
         (sym (ap (text_of server) step.behind ∙ text_of-append server run.printed printed))
-        (subst (λ sh. IsWorldRun sh (run'.worlds server)
+        (subst (λ sh. IsWorldRun server_opening sh (run'.worlds server)
         (text_of server run.printed ++ text_of server printed))
         (sym (ap (λ s. share n s server) step.script ∙ share-push n run.script line server is.follow))
         (share-goes_on (is_for n (run.script ++ line ∷ []) server line)

@@ -9,7 +9,7 @@ use Rattle.page_script.specs.declared.line.Line.{Line}
 use Rattle.page_script.specs.declared.line.Line.TheVariants as lines
 use Rattle.partition.specs.Shares.{home_of, MayFollow, EachFollows, is_home, is_for, share, homes_in}
 
-cond_none : (b : Bool) (s : ℕ) (rest : Option ℕ) → cond b (Some s) rest ≡ None
+pub cond_none : (b : Bool) (s : ℕ) (rest : Option ℕ) → cond b (Some s) rest ≡ None
     → (b ≡ false) × (rest ≡ None)
 cond_none true s rest none = cc
 cond_none false s rest none = (refl, none)
