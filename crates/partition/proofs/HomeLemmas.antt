@@ -123,7 +123,7 @@ own-at n server (p ∷ before) page behind own = own-at n server before page beh
 
 pub count-more : (script more : List Line)
     → page_count (script ++ more) ≡ page_count script + page_count more
-count-more [] more = refl
+count-more [] more = omega arith
 count-more (lines.Limits limits ∷ script) more = count-more script more
 count-more (lines.Page page ∷ script) more =
     let rest = count-more script more in omega arith

@@ -99,7 +99,7 @@ module _ (n : ℕ) where
   is_for-same script more server (lines.Limits limits) homed = refl
   is_for-same script more server (lines.Page page) homed = refl
   is_for-same script more server (lines.Step moment name) homed =
-      ap (λ home. is_home home server) (home-same script more name homed)
+      ap (λ home. is_home n home server) (home-same script more name homed)
 
   each-same : (script more some : List Line) (server : ℕ) → AllByRecursion (IsHomed script) some
       → AllByRecursion (λ line. is_for n (script ++ more) server line ≡ is_for n script server line)

@@ -118,7 +118,7 @@ module _ {K : Type 0} (G : Ghosts K) where
       → FarmStands G farm empty_run
   farm-begins farm scripts pages = record {
     scripts = scripts;
-    run = record {
+    is_run = record {
       follow = tt;
       shares = λ server below. (refl, refl);
       order = refl;
@@ -146,8 +146,8 @@ module _ {K : Type 0} (G : Ghosts K) where
     abbrev n : ℕ
     n = servers_of farm'
 
-    is_run : IsFarmRun n run
-    is_run = subst (λ (k : ℕ). IsFarmRun k run) (sym same) stands.run
+    was_run : IsFarmRun n run
+    was_run = subst (λ (k : ℕ). IsFarmRun k run) (sym same) stands.is_run
 
     names : NamesStand n run
     names = subst (λ (k : ℕ). NamesStand k run) (sym same) stands.names
@@ -157,7 +157,7 @@ module _ {K : Type 0} (G : Ghosts K) where
         → FarmStands G farm' run
     farm-stays scripts pages = record {
       scripts = scripts;
-      run = is_run;
+      is_run = was_run;
       names = names;
       pages = pages ∙ stands.pages;
     }
@@ -191,8 +191,8 @@ module _ {K : Type 0} (G : Ghosts K) where
           step = limits-step;
           stands = record {
             scripts = scripts;
-            run = IsFarmRun-push n run limited_run (lines.Limits limits) [] is_run limits-step refl
-                tt is_run.own;
+            is_run = IsFarmRun-push n run limited_run (lines.Limits limits) [] was_run limits-step refl
+                tt was_run.own;
             names = NamesStand-alike n run limited_run (lines.Limits limits ∷ []) names refl
                 (λ name. refl) refl (λ server below. Alike-same (run.worlds server).pages);
             pages = pages ∙ stands.pages ∙ sym (count-none run.script (lines.Limits limits ∷ []) refl);
@@ -266,10 +266,10 @@ module _ {K : Type 0} (G : Ghosts K) where
             scripts = subst (λ (ss : List (Script K)). ScriptsStand G ss next.worlds) (sym scripts)
                 (ScriptsStand-set G farm.scripts.items run.worlds home script' takes.world'
                 stands.scripts inside takes.stands);
-            run = IsFarmRun-push n run next (lines.Page page) [] is_run page-step refl tt
-                (own-put n run.worlds home takes.world' is_run.own
+            is_run = IsFarmRun-push n run next (lines.Page page) [] was_run page-step refl tt
+                (own-put n run.worlds home takes.world' was_run.own
                 (subst (λ (w : World). OwnKeys n home w.turns) (sym takes.step.1)
-                (is_run.own home below)));
+                (was_run.own home below)));
             names = NamesStand-page n run page takes.world' names below free'
                 (ap (λ (w : World). w.pages) takes.step.1);
             pages = let old = stands.pages in
@@ -303,11 +303,11 @@ module _ {K : Type 0} (G : Ghosts K) where
         (scripts : farm'.scripts.items ≡ set farm.scripts.items server script')
         (pages : farm'.pages ≡ farm.pages)
       where
-        below : server < n
-        below = omega (arith, inside, same)
+        within : server < n
+        within = omega (arith, inside, same)
 
         at-home : home_of n run.script name ≡ Some server
-        at-home = (names.homes server below name).0 named
+        at-home = (names.homes server within name).0 named
 
         module _ (Prints : List ℕ → Type 0)
             (takes : WorldTakes G script' (run.worlds server) (lines.Step moment name) Prints)
@@ -315,8 +315,8 @@ module _ {K : Type 0} (G : Ghosts K) where
             abbrev printed_line : FarmLine
             printed_line = record { server = server; text = takes.printed }
 
-            abbrev next : FarmRun
-            next = record {
+            abbrev stepped : FarmRun
+            stepped = record {
               script = run.script ++ lines.Step moment name ∷ [];
               worlds = put run.worlds server takes.world';
               printed = run.printed ++ printed_line ∷ [];
@@ -325,13 +325,13 @@ module _ {K : Type 0} (G : Ghosts K) where
             home' : home_of n (run.script ++ lines.Step moment name ∷ []) name ≡ Some server
             home' = home-silent n run.script (lines.Step moment name ∷ []) name refl ∙ at-home
 
-            some-step : FarmStep n run (lines.Step moment name) next (printed_line ∷ [])
+            some-step : FarmStep n run (lines.Step moment name) stepped (printed_line ∷ [])
             some-step = record {
               follows = λ none. (let e : Some server ≡ None = sym at-home ∙ none in cc);
               script = refl;
               behind = refl;
               each = λ other below'.
-                  subst (λ (home : Option ℕ). ServerTakes (is_home home other) (run.worlds other)
+                  subst (λ (home : Option ℕ). ServerTakes (is_home n home other) (run.worlds other)
                   (lines.Step moment name) (put run.worlds server takes.world' other)
                   (cond (server == other) (takes.printed ++ []) [])) (sym home')
                   (one-takes run.worlds server (lines.Step moment name) takes.world' takes.printed
@@ -342,21 +342,21 @@ module _ {K : Type 0} (G : Ghosts K) where
                 → (Prints takes.printed → More (farm_text (printed_line ∷ [])))
                 → FarmTakes G farm' run (lines.Step moment name) More
             step-taken More prints = record {
-              run' = next;
+              run' = stepped;
               printed = printed_line ∷ [];
               step = some-step;
               stands = record {
                 scripts =
-                    subst (λ (ss : List (Script K)). ScriptsStand G ss next.worlds) (sym scripts)
+                    subst (λ (ss : List (Script K)). ScriptsStand G ss stepped.worlds) (sym scripts)
                     (ScriptsStand-set G farm.scripts.items run.worlds server script' takes.world'
                     stands.scripts inside takes.stands);
-                run = IsFarmRun-push n run next (lines.Step moment name) (printed_line ∷ []) is_run
+                is_run = IsFarmRun-push n run stepped (lines.Step moment name) (printed_line ∷ []) was_run
                     some-step (ap (λ (home : Option ℕ). home ∷ []) (sym home'))
                     (step-ends (run.worlds server) moment name takes.world' takes.printed takes.step, tt)
-                    (own-put n run.worlds server takes.world' is_run.own
+                    (own-put n run.worlds server takes.world' was_run.own
                     (step-own n server (run.worlds server) moment name takes.world' takes.printed
-                    takes.step (names.own server below) (is_run.own server below)));
-                names = NamesStand-alike n run next (lines.Step moment name ∷ []) names refl
+                    takes.step (names.own server within) (was_run.own server within)));
+                names = NamesStand-alike n run stepped (lines.Step moment name ∷ []) names refl
                     (λ other. refl) refl (λ other below'. alike-put run.worlds server takes.world'
                     (step-alike (run.worlds server) moment name takes.world' takes.printed
                     takes.step) other);

@@ -46,7 +46,7 @@ pub record NamesStand (servers : ℕ) (run : FarmRun) : Type 0 where
 pub record FarmStands {K : Type 0} (G : Ghosts K) (farm : FarmScript K) (run : FarmRun) : Type
     0 where
   pub scripts : ScriptsStand G farm.scripts.items run.worlds
-  pub run : IsFarmRun (servers_of farm) run
+  pub is_run : IsFarmRun (servers_of farm) run
   pub names : NamesStand (servers_of farm) run
   pub pages : farm.pages ≡ page_count run.script
 

@@ -1,13 +1,10 @@
 //! A page script over several servers: one script of pages for each of them.
-ghost use Rattle.std.specs.Prelude.{◌≡◌, ◌≤◌, ◌<◌, ◌++◌, ◌∷◌, [], ℕ, decimal, length, MatchOption, OnOk, OnErr, ⊤};
-ghost use Rattle.asp_messages.specs.Appending.{Extends};
-ghost use Rattle.page_script.specs.World.{World, HasName};
-ghost use Rattle.partition.specs.FarmStands.{ScriptsStand};
-ghost use Rattle.partition.specs.Limited.{limited};
+ghost use Rattle.std.specs.Prelude.{◌≡◌, ◌≤◌, length, []};
 ghost use Rattle.visit_core.specs.Terms.{LimitsFit};
 
+use crate::server_scripts::{limit_each, push_server, server_with};
 use asp_base::NoMemory;
-use asp_messages::{or_undo, push, push_number};
+use asp_messages::or_undo;
 use keeper::Keeper;
 use page_script::{Line, LineEnd, MOST_PAGES, Name, PageLine, Script, read_line};
 use placement::server_of;
@@ -25,52 +22,11 @@ pub struct FarmScript<K> {
     ghost servers: { (1 ≤ length scripts.items) × (length scripts.items ≤ 64) },
 }
 
-/// A server's number, and a space.
-fn push_server(out: &mut Vec<u8>, server: usize) -> Result<(), NoMemory>
-    ensures ok { OnOk result (out.new.items ≡ out.old.items ++ (decimal server ++ 32 ∷ [])) }
-    ensures err { OnErr result (Extends out.old.items out.new.items) }
-{
-    push_number(out, server as u64)?;
-    push(out, b" ")
-}
-
-/// The server that has a page of this name.
-fn server_with<K: Keeper>(scripts: &[Script<K>], name: &Name) -> Option<usize>
-    ensures { (worlds : ℕ → World) → ScriptsStand ⟦<K as Keeper>⟧ scripts.now worlds
-        → MatchOption result
-        ((server : ℕ) → server < length scripts.now → HasName (worlds server).pages name.now → ⊥)
-        (λ server. HasName (worlds server).pages name.now) }
-    ensures inside { MatchOption result ⊤ (λ server. server < length scripts.now) }
-{
-    for (server, script) in scripts.iter().enumerate() {
-        if script.has_page(name) {
-            return Some(server);
-        }
-    }
-    None
-}
-
-/// The limits of the pages to come, on each server.
-fn limit_each<K: Keeper>(scripts: &mut [Script<K>], limits: Limits)
-    requires { LimitsFit limits }
-    ensures limited { (worlds : ℕ → World) → ScriptsStand ⟦<K as Keeper>⟧ scripts.old worlds
-        → ScriptsStand ⟦<K as Keeper>⟧ scripts.new (λ server. limited limits (worlds server)) }
-    ensures count { length scripts.new ≡ length scripts.old }
-{
-    for script in scripts.iter_mut() {
-        script.set_limits(limits);
-    }
-}
-
-impl<K: Keeper> FarmScript<K> {
-    ghost use Rattle.std.specs.Prelude.{◌≤◌, ◌^◌, All, IfOk};
+impl<K: Keeper + Drop> FarmScript<K> {
+    ghost use Rattle.std.specs.Prelude.{◌≤◌, All, IfOk};
     ghost use Rattle.keeper.specs.Items.{IsEmptyTold};
-    ghost use Rattle.page_script.specs.declared.line.Line.{Line};
-    ghost use Rattle.page_script.specs.Lines.{LineFits, PageFits};
-    ghost use Rattle.page_script.specs.ScriptStands.{IsAppended};
     ghost use Rattle.partition.specs.Farm.{empty_run};
-    ghost use Rattle.partition.specs.FarmStands.{EachRunStays, EachRunTakes, EachRunMayTake, NoRunTakes};
-    ghost use Rattle.partition.specs.FarmStands.{EachRunTakesText, EachRunMayTakeText, NoRunTakesText, FarmIsOver, FarmStands, servers_of};
+    ghost use Rattle.partition.specs.FarmStands.{FarmIsOver, FarmStands, servers_of};
 
     /// A script with no pages over 1 to 64 keepers with no items, one for each server, whose
     /// cookies begin at 1. After `NoMemory` the keepers are dropped.
@@ -93,6 +49,15 @@ impl<K: Keeper> FarmScript<K> {
             is_over: false,
         })
     }
+}
+
+impl<K: Keeper> FarmScript<K> {
+    ghost use Rattle.std.specs.Prelude.{◌≤◌, ◌^◌};
+    ghost use Rattle.page_script.specs.declared.line.Line.{Line};
+    ghost use Rattle.page_script.specs.Lines.{LineFits, PageFits};
+    ghost use Rattle.page_script.specs.ScriptStands.{IsAppended};
+    ghost use Rattle.partition.specs.FarmStands.{EachRunStays, EachRunTakes, EachRunMayTake, NoRunTakes};
+    ghost use Rattle.partition.specs.FarmStands.{EachRunTakesText, EachRunMayTakeText, NoRunTakesText, FarmIsOver, servers_of};
 
     /// How many servers there are, 1 to 64.
     pub fn servers(&self) -> u64

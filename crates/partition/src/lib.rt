@@ -3,5 +3,6 @@
 #![tactic(auto)]
 
 mod farm_script;
+mod server_scripts;
 
 pub use farm_script::FarmScript;
