@@ -1,8 +1,8 @@
 -- The scripts of a farm and the worlds of its servers, place by place.
-use Rattle.std.proofs.Common.{◌≡◌, ◌≢◌, ℕ, ◌+◌, ◌<◌, ◌≤◌, List, [], ◌∷◌, ◌++◌, length, get_or, set, refl, sym, ap, ◌∙◌, arith, subst, inl, inr, length-append, cond, true, false, Bool, zero, suc}
-use Rattle.std.specs.Prelude.{◌==◌, ◌⊎◌}
+use Rattle.std.proofs.Common.{◌≡◌, ◌≢◌, ℕ, ◌+◌, ◌<◌, ◌≤◌, List, [], ◌∷◌, ◌++◌, length, get_or, set, refl, sym, ap, ◌∙◌, arith, subst, inl, inr, length-append, cond, true, false, Bool, zero, suc, take, Option, Some, None}
+use Rattle.std.specs.Prelude.{◌==◌, ◌⊎◌, MatchOption, is_some, ⊤}
 use Rattle.std.proofs.lemmas.Bool.Decides.{nat_tests}
-use Rattle.std.proofs.lemmas.List.{get_or-set_same, get_or-set_other, get_or_append_left, length-set}
+use Rattle.std.proofs.lemmas.List.{get_or-set_same, get_or-set_other, get_or_append_left, length-set, set-get_or}
 use Rattle.std.proofs.Math.Seq.{get_or-append_seam}
 use Rattle.keeper.specs.declared.keeping.Keeper.{Ghosts}
 use Rattle.visit_core.specs.declared.visit_terms.Limits.{Limits}
@@ -56,6 +56,41 @@ pub there-same : {X : Type 0} (xs : List X) (n : ℕ) (x y : X) → x ≡ get_or
 there-same [] n x y is inside = absurd (omega arith)
 there-same (z ∷ xs) zero x y is inside = is
 there-same (z ∷ xs) (suc n) x y is inside = there-same xs n x y is (omega arith)
+
+-- the element at a place, in its place
+pub set-stays : {X : Type 0} (xs : List X) (n : ℕ) (x y : X) → y ≡ x → x ≡ get_or xs n x
+    → set xs n y ≡ xs
+set-stays xs n x y same is = ap (λ z. set xs n z) (same ∙ is) ∙ set-get_or xs n x
+
+take-front : (xs ys : List ℕ) → take (length xs) (xs ++ ys) ≡ xs
+take-front [] ys = refl
+take-front (x ∷ xs) ys = ap (λ l. x ∷ l) (take-front xs ys)
+
+-- what was appended is taken off again
+pub cut-back : (len : ℕ) (old numbered stepped cut number : List ℕ) → len ≡ length old
+    → numbered ≡ old ++ number → stepped ≡ numbered → cut ≡ take len stepped → cut ≡ old
+cut-back len old numbered stepped cut number len-is is same cuts =
+    cuts ∙ ap (λ (n : ℕ). take n stepped) len-is ∙ ap (λ t. take (length old) t) (same ∙ is)
+    ∙ take-front old number
+
+-- ---- what was found
+
+pub found-some : {P : Type 0} {Q : ℕ → Type 0} (found : Option ℕ) (answer : Bool)
+    → answer ≡ is_some found → answer ≡ true → MatchOption found P Q
+    → (server : ℕ) × (found ≡ Some server) × Q server
+found-some None answer is yes holds = absurd (none (sym yes ∙ is))
+  where
+    none : true ≡ false → ⊥
+    none e = cc
+found-some (Some server) answer is yes holds = (server, refl, holds)
+
+pub found-none : {P : Type 0} {Q : ℕ → Type 0} (found : Option ℕ) (answer : Bool)
+    → answer ≡ is_some found → answer ≡ false → MatchOption found P Q → P
+found-none None answer is no holds = holds
+found-none (Some server) answer is no holds = absurd (some (sym no ∙ is))
+  where
+    some : false ≡ true → ⊥
+    some e = cc
 
 module _ {K : Type 0} (G : Ghosts K) where
   -- the script of one server has changed

@@ -278,6 +278,23 @@ module _ {K : Type 0} (G : Ghosts K) where
           prints = refl;
         }
 
+    -- the same, with the server as it was computed
+    pub page-taken-at : (page : PageLine) (script' : Script K) (here : ℕ)
+        → home_of (servers_of farm) run.script page.name ≡ None → farm.pages < most_pages
+        → here ≡ server_of_key page.key (servers_of farm) → here < length farm.scripts.items
+        → WorldTakes G script' (run.worlds here) (lines.Page page) (λ printed. printed ≡ [])
+        → farm'.scripts.items ≡ set farm.scripts.items here script' → farm'.pages ≡ farm.pages + 1
+        → FarmTakes G farm' run (lines.Page page) (λ printed. printed ≡ [])
+    page-taken-at page script' here free room is inside takes scripts pages =
+        page-taken page script' free room
+        (subst (λ (k : ℕ). k < length farm.scripts.items) (sym e) inside)
+        (subst (λ (k : ℕ). WorldTakes G script' (run.worlds k) (lines.Page page)
+        (λ printed. printed ≡ [])) (sym e) takes)
+        (scripts ∙ ap (λ (k : ℕ). set farm.scripts.items k script') (sym e)) pages
+      where
+        e : server_of_key page.key (servers_of farm') ≡ here
+        e = ap (λ (k : ℕ). server_of_key page.key k) same ∙ sym is
+
     -- a page whose name is free, and for which there is room, may follow on its server
     pub page-may : (page : PageLine) → home_of (servers_of farm) run.script page.name ≡ None
         → farm.pages < most_pages → (server : ℕ) → server < servers_of farm

@@ -50,6 +50,12 @@ pub record FarmStands {K : Type 0} (G : Ghosts K) (farm : FarmScript K) (run : F
   pub names : NamesStand (servers_of farm) run
   pub pages : farm.pages ≡ page_count run.script
 
+-- Nothing changed: each server has the script that it had, and the farm has its count of pages.
+pub record IsSameFarm {K : Type 0} (farm farm' : FarmScript K) : Type 0 where
+  pub scripts : farm'.scripts.items ≡ farm.scripts.items
+  pub pages : farm'.pages ≡ farm.pages
+  pub is_over : farm'.is_over ≡ farm.is_over
+
 -- a fact of each run that the farm stands for
 abbrev pub EachRun : {K : Type 0} → Ghosts K → FarmScript K → (FarmRun → Type 0) → Type 0
 EachRun G farm P = (run : FarmRun) → FarmStands G farm run → P run

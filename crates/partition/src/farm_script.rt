@@ -2,9 +2,8 @@
 ghost use Rattle.std.specs.Prelude.{◌≡◌, ◌≤◌, length, []};
 ghost use Rattle.visit_core.specs.Terms.{LimitsFit};
 
-use crate::server_scripts::{limit_each, push_server, server_with};
+use crate::server_scripts::{limit_each, server_with, step_on};
 use asp_base::NoMemory;
-use asp_messages::or_undo;
 use keeper::Keeper;
 use page_script::{Line, LineEnd, MOST_PAGES, Name, PageLine, Script, read_line};
 use placement::server_of;
@@ -57,7 +56,7 @@ impl<K: Keeper> FarmScript<K> {
     ghost use Rattle.page_script.specs.Lines.{LineFits, PageFits};
     ghost use Rattle.page_script.specs.ScriptStands.{IsAppended};
     ghost use Rattle.partition.specs.FarmStands.{EachRunStays, EachRunTakes, EachRunMayTake, NoRunTakes};
-    ghost use Rattle.partition.specs.FarmStands.{EachRunTakesText, EachRunMayTakeText, NoRunTakesText, FarmIsOver, servers_of};
+    ghost use Rattle.partition.specs.FarmStands.{EachRunTakesText, EachRunMayTakeText, NoRunTakesText, FarmIsOver, IsSameFarm, servers_of};
 
     /// How many servers there are, 1 to 64.
     pub fn servers(&self) -> u64
@@ -84,13 +83,16 @@ impl<K: Keeper> FarmScript<K> {
             (Line.Page page) (λ printed. printed ≡ []) }
         ensures not_a_line { result ≡ LineEnd.NotALine
             → NoRunTakes ⟦<K as Keeper>⟧ self.old (Line.Page page) }
-        ensures unchanged { result ≡ LineEnd.NotALine → self.new ≡ self.old }
+        ensures unchanged { result ≡ LineEnd.NotALine → IsSameFarm self.old self.new }
         ensures no_memory { result ≡ LineEnd.NoMemory
             → EachRunStays ⟦<K as Keeper>⟧ self.old self.new }
         ensures servers { servers_of self.new ≡ servers_of self.old }
         ensures is_over { self.new.is_over ≡ self.old.is_over }
     {
-        if server_with(&self.scripts, &page.name).is_some() || self.pages >= MOST_PAGES {
+        if self.pages >= MOST_PAGES {
+            return LineEnd::NotALine;
+        }
+        if server_with(&self.scripts, &page.name).is_some() {
             return LineEnd::NotALine;
         }
         let server = server_of(page.key.as_slice(), self.servers());
@@ -108,7 +110,7 @@ impl<K: Keeper> FarmScript<K> {
             (Line.Step moment name) (IsAppended out.old.items out.new.items) }
         ensures not_a_line { result ≡ LineEnd.NotALine
             → NoRunTakes ⟦<K as Keeper>⟧ self.old (Line.Step moment name) }
-        ensures unchanged { result ≡ LineEnd.NotALine → self.new ≡ self.old }
+        ensures unchanged { result ≡ LineEnd.NotALine → IsSameFarm self.old self.new }
         ensures no_memory { result ≡ LineEnd.NoMemory
             → EachRunMayTake ⟦<K as Keeper>⟧ self.old self.new (Line.Step moment name) }
         ensures same { (result ≡ LineEnd.Done → ⊥) → out.new.items ≡ out.old.items }
@@ -118,16 +120,7 @@ impl<K: Keeper> FarmScript<K> {
         let Some(server) = server_with(&self.scripts, &name) else {
             return LineEnd::NotALine;
         };
-        let len = out.len();
-        let numbered = push_server(out, server);
-        if or_undo(numbered, out, len).is_err() {
-            return LineEnd::NoMemory;
-        }
-        let end = self.scripts[server].step(moment, name, out);
-        if end != LineEnd::Done {
-            out.truncate(len);
-        }
-        end
+        step_on(&mut self.scripts[server], server, moment, name, out)
     }
 
     /// One line.
@@ -137,7 +130,7 @@ impl<K: Keeper> FarmScript<K> {
             line (IsAppended out.old.items out.new.items) }
         ensures not_a_line { result ≡ LineEnd.NotALine
             → NoRunTakes ⟦<K as Keeper>⟧ self.old line }
-        ensures unchanged { result ≡ LineEnd.NotALine → self.new ≡ self.old }
+        ensures unchanged { result ≡ LineEnd.NotALine → IsSameFarm self.old self.new }
         ensures no_memory { result ≡ LineEnd.NoMemory
             → EachRunMayTake ⟦<K as Keeper>⟧ self.old self.new line }
         ensures same { (result ≡ LineEnd.Done → ⊥) → out.new.items ≡ out.old.items }
@@ -165,7 +158,7 @@ impl<K: Keeper> FarmScript<K> {
         // In no run that the farm stands for may such a line follow; nothing changed.
         ensures not_a_line { result ≡ LineEnd.NotALine
             → NoRunTakesText ⟦<K as Keeper>⟧ self.old text.now }
-        ensures unchanged { result ≡ LineEnd.NotALine → self.new ≡ self.old }
+        ensures unchanged { result ≡ LineEnd.NotALine → IsSameFarm self.old self.new }
 
         // For want of memory each run stayed, or took the line without a print.
         ensures no_memory { result ≡ LineEnd.NoMemory
