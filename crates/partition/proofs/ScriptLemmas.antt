@@ -75,19 +75,19 @@ cut-back len old numbered stepped cut number len-is is same cuts =
 
 -- ---- what was found
 
-pub found-some : {P : Type 0} {Q : ℕ → Type 0} (found : Option ℕ) (answer : Bool)
-    → answer ≡ is_some found → answer ≡ true → MatchOption found P Q
-    → (server : ℕ) × (found ≡ Some server) × Q server
-found-some None answer is yes holds = absurd (none (sym yes ∙ is))
+pub found-some : (P P' : Type 0) (Q Q' : ℕ → Type 0) (found : Option ℕ) (answer : Bool)
+    → answer ≡ is_some found → answer ≡ true → MatchOption found P Q → MatchOption found P' Q'
+    → (server : ℕ) × Q server × Q' server
+found-some P P' Q Q' None answer is so holds inside = absurd (none (sym so ∙ is))
   where
     none : true ≡ false → ⊥
     none e = cc
-found-some (Some server) answer is yes holds = (server, refl, holds)
+found-some P P' Q Q' (Some server) answer is so holds inside = (server, holds, inside)
 
-pub found-none : {P : Type 0} {Q : ℕ → Type 0} (found : Option ℕ) (answer : Bool)
+pub found-none : (P : Type 0) (Q : ℕ → Type 0) (found : Option ℕ) (answer : Bool)
     → answer ≡ is_some found → answer ≡ false → MatchOption found P Q → P
-found-none None answer is no holds = holds
-found-none (Some server) answer is no holds = absurd (some (sym no ∙ is))
+found-none P Q None answer is not holds = holds
+found-none P Q (Some server) answer is not holds = absurd (some (sym not ∙ is))
   where
     some : false ≡ true → ⊥
     some e = cc

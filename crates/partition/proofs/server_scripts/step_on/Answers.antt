@@ -5,7 +5,7 @@ use Rattle.partition.proofs.server_scripts.step_on.Goals as goal
 
 pub returns-then-ne-clause-same : goal.returns-then-ne-clause-same
 returns-then-ne-clause-same g c not_done =
-    cut-back c.len-len.result c.args.out.now.items _ _ _ _ c.len-len.ensures c.in-Ok.ensures.ok
+    cut-back c.len-len.result c.args.out.now.items _ _ _ _ (c.len-len.ensures ∙ c.args.out.now.ok.0) c.in-Ok.ensures.ok
     (c.step-end.ensures.same not_done) c.truncate.ensures.items
 
 pub returns-else-ne-clause-done : goal.returns-else-ne-clause-done

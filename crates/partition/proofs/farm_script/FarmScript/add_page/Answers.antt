@@ -1,7 +1,7 @@
-use Rattle.std.proofs.Common.{◌≡◌, ℕ, refl, sym, ap, ◌∙◌, arith}
+use Rattle.std.proofs.Common.{ℕ, ◌<◌, length, refl, ap, ◌∙◌, arith}
 use Rattle.std.proofs.lemmas.List.{length-set}
 use Rattle.placement.specs.Placement.{server_of_key}
-use Rattle.partition.proofs.ScriptLemmas.{ScriptsStand-stays, found-some, found-none, set-stays}
+use Rattle.partition.proofs.ScriptLemmas.{ScriptsStand-stays, found-none, found-some, set-stays}
 use Rattle.partition.proofs.TakeLemmas.{farm-stays, used-no_page, free-name, page-taken-at, page-may}
 use Rattle.partition.proofs.farm_script.FarmScript.add_page.Goals as goal
 
@@ -12,23 +12,21 @@ returns-then-self-ge-MOST_PAGES-clause-not_a_line g c end run stands may =
 pub returns-then-is_some-clause-not_a_line : goal.returns-then-is_some-clause-not_a_line
 returns-then-is_some-clause-not_a_line g c end run stands may =
     let farm = c.args.self.now in
-    let found = found-some c.server_with.result c.is_some.result c.is_some.ensures c.if-is_some.true
-    ((rw c.deref.ensures.value at c.server_with.ensures.found) run.worlds stands.scripts) in
-    let inside = found-some c.server_with.result c.is_some.result c.is_some.ensures
-    c.if-is_some.true (rw c.deref.ensures.value at c.server_with.ensures.inside) in
-    let same : inside.0 ≡ found.0 = cc (found.1, inside.1) in
-    used-no_page g.K.Keeper farm farm refl run stands c.args.page found.0
-    (omega (arith, inside.2, same)) found.2 may
+    let found = found-some _ _ _ _ c.server_with.result c.is_some.result c.is_some.ensures
+    c.if-is_some.true
+    ((rw c.deref.ensures.value at c.server_with.ensures.found) run.worlds stands.scripts)
+    (rw c.deref.ensures.value at c.server_with.ensures.inside) in
+    used-no_page g.K.Keeper farm farm refl run stands c.args.page found.0 found.2 found.1 may
 
 pub returns-then-eq-clause-done : goal.returns-then-eq-clause-done
 returns-then-eq-clause-done g c done run stands =
     let farm = c.args.self.now in
     let here = c.server_of-server.result in
-    let nobody = found-none c.server_with.result c.is_some.result c.is_some.ensures
+    let nobody = found-none _ _ c.server_with.result c.is_some.result c.is_some.ensures
     c.if-is_some.false
     ((rw c.deref.ensures.value at c.server_with.ensures.found) run.worlds stands.scripts) in
-    let inside = c.server_of-server.ensures.below in
-    let below = omega (arith, inside, c.servers.ensures) in
+    let below : here < length farm.scripts.items =
+    omega (arith, c.server_of-server.ensures.below, c.servers.ensures) in
     page-taken-at g.K.Keeper farm _ (length-set farm.scripts.items here c.add_page-end.new.self)
     run stands c.args.page c.add_page-end.new.self here
     (free-name g.K.Keeper farm farm refl run stands c.args.page.name nobody)
@@ -44,7 +42,8 @@ pub returns-else-eq-clause-not_a_line : goal.returns-else-eq-clause-not_a_line
 returns-else-eq-clause-not_a_line g c end run stands may =
     let farm = c.args.self.now in
     let here = c.server_of-server.result in
-    let below = omega (arith, c.server_of-server.ensures.below, c.servers.ensures) in
+    let below : here < length farm.scripts.items =
+    omega (arith, c.server_of-server.ensures.below, c.servers.ensures) in
     c.add_page-end.ensures.not_a_line end (run.worlds here)
     (stands.scripts here c.index_mut.result.now below c.index_mut.ensures.value)
     (page-may g.K.Keeper farm farm refl run stands c.args.page may.0 c.if-self-ge-MOST_PAGES.false
@@ -63,7 +62,8 @@ pub returns-else-eq-clause-no_memory : goal.returns-else-eq-clause-no_memory
 returns-else-eq-clause-no_memory g c end run stands =
     let farm = c.args.self.now in
     let here = c.server_of-server.result in
-    let below = omega (arith, c.server_of-server.ensures.below, c.servers.ensures) in
+    let below : here < length farm.scripts.items =
+    omega (arith, c.server_of-server.ensures.below, c.servers.ensures) in
     farm-stays g.K.Keeper farm _ (length-set farm.scripts.items here c.add_page-end.new.self)
     run stands
     (ScriptsStand-stays g.K.Keeper farm.scripts.items run.worlds here c.add_page-end.new.self
