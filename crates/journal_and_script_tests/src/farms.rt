@@ -1,4 +1,6 @@
 //! Page scripts over the servers of a farm.
+ghost use Rattle.std.specs.Prelude.{◌≤◌};
+
 use crate::scripts::{FORCED, FORCED_PRINTED, GIVEN_UP, GIVEN_UP_PRINTED};
 use keeper::ListKeeper;
 use page_script::LineEnd;
@@ -145,9 +147,16 @@ fn sixty_four_pages_are_over_all_servers(rt: HostRuntime) -> Result<(), Fail> {
     let mut farm = farm_of(alloc, 64)?;
     for place in 0..65u8 {
         let name = [b'a' + place / 26, b'a' + place % 26];
-        let line = format!(in alloc; "page {}{} x{:02x} off keep", name[0] as char, name[1] as char, place)?;
+        let line = format!(in alloc;
+            "page {}{} x{:02x} off keep",
+            name[0] as char, name[1] as char, place
+        )?;
         let end = end_of(&mut farm, line.as_bytes(), &mut out);
-        let wanted = if place < 64 { LineEnd::Done } else { LineEnd::NotALine };
+        let wanted = if place < 64 {
+            LineEnd::Done
+        } else {
+            LineEnd::NotALine
+        };
         assert_eq!(rt; end, wanted);
     }
     Ok(())
