@@ -27,8 +27,9 @@ loop-keeper-preserved g c =
 pub invariant_of-result : goal.invariant_of-result
 invariant_of-result g c =
     let end = YieldsList-end (YieldsList-from_vec {s = c.into_iter-keeper-iterator.result}
-    c.args.keepers.items (search rules) (search rules)) c.loop-keeper.yielded _
-    c.loop-keeper.yielded_by _ _ c.in-None.is c.next.ensures.steps in
+    c.args.keepers.items (search rules) (search rules)) c.loop-keeper.yielded
+    c.loop-keeper.keeper-iterator c.loop-keeper.yielded_by c.next.result c.next.new.self
+    c.in-None.is c.next.ensures.steps in
     let count = c.loop-keeper.invariant.count in
     let some = c.requires.servers in record {
       servers = (omega (arith, count, end.1, some.0), omega (arith, count, end.1, some.1));
