@@ -1,12 +1,12 @@
 -- A run of a farm and one line more.
-use Rattle.std.proofs.Common.{◌≡◌, ℕ, ◌<◌, Bool, true, false, cond, List, [], ◌∷◌, ◌++◌, refl, sym, ap, ◌∙◌, arith, subst, append_assoc, append-nil}
+use Rattle.std.proofs.Common.{◌≡◌, ℕ, ◌<◌, Bool, true, false, cond, List, [], ◌∷◌, ◌++◌, refl, sym, ap, ◌∙◌, subst, append_assoc, append-nil}
 use Rattle.std.specs.Prelude.{◌==◌, map}
 use Rattle.std.specs.List.{AllByRecursion}
 use Rattle.std.proofs.lemmas.List.{map-append}
 use Rattle.page_script.specs.declared.line.Line.{Line}
-use Rattle.page_script.specs.World.{World, WorldStep, IsWorldRun, world_from}
+use Rattle.page_script.specs.World.{World, IsWorldRun, world_from}
 use Rattle.page_script.proofs.RunLemmas.{Leads-push}
-use Rattle.partition.specs.Farm.{FarmLine, FarmRun, FarmStep, IsFarmRun, server_opening, EndsLine, OwnKeys, ServerTakes, farm_text, server_of_line, text_of}
+use Rattle.partition.specs.Farm.{FarmLine, FarmRun, FarmStep, IsFarmRun, server_opening, EndsLine, OwnKeys, ServerTakes, server_of_line, text_of}
 use Rattle.partition.specs.Shares.{EachFollows, homes_in, is_for, share}
 use Rattle.partition.proofs.ShareLemmas.{EachFollows-push, homes_in-push, share-push}
 
@@ -48,17 +48,17 @@ IsFarmRun-push n run run' line printed is step order ends own = record {
   follow = subst (λ s. EachFollows n [] s) (sym step.script)
       (EachFollows-push n [] run.script line is.follow step.follows);
   shares = λ server below. (
-    subst (λ out. IsWorldRun server_opening (share n run'.script server) (run'.worlds server) out)
-        (sym (ap (text_of server) step.behind ∙ text_of-append server run.printed printed))
-        (subst (λ sh. IsWorldRun server_opening sh (run'.worlds server)
-        (text_of server run.printed ++ text_of server printed))
-        (sym (ap (λ s. share n s server) step.script ∙ share-push n run.script line server is.follow))
-        (share-goes_on (is_for n (run.script ++ line ∷ []) server line)
-        (share n run.script server) line (run.worlds server) (run'.worlds server)
-        (text_of server run.printed) (text_of server printed) (is.shares server below)
-        (subst (λ s. ServerTakes (is_for n s server line) (run.worlds server) line
-        (run'.worlds server) (text_of server printed)) step.script (step.each server below))))
-  );
+      subst (λ out. IsWorldRun server_opening (share n run'.script server) (run'.worlds server) out)
+      (sym (ap (text_of server) step.behind ∙ text_of-append server run.printed printed))
+      (subst (λ sh. IsWorldRun server_opening sh (run'.worlds server)
+      (text_of server run.printed ++ text_of server printed))
+      (sym (ap (λ s. share n s server) step.script ∙ share-push n run.script line server is.follow))
+      (share-goes_on (is_for n (run.script ++ line ∷ []) server line)
+      (share n run.script server) line (run.worlds server) (run'.worlds server)
+      (text_of server run.printed) (text_of server printed) (is.shares server below)
+      (subst (λ s. ServerTakes (is_for n s server line) (run.worlds server) line
+      (run'.worlds server) (text_of server printed)) step.script (step.each server below))))
+      );
   order =
       ap (map server_of_line) step.behind ∙ map-append server_of_line run.printed printed
       ∙ ap (λ homes. homes ++ map server_of_line printed) is.order

@@ -1,7 +1,6 @@
 -- The homes of the names of a farm, and the pages of its servers.
 use Rattle.std.proofs.Common.{◌≡◌, ◌≢◌, ℕ, ◌+◌, ◌<◌, ◌≤◌, Bool, true, false, cond, List, [], ◌∷◌, ◌++◌, length, Option, Some, None, refl, sym, ap, ◌∙◌, arith, subst, inl, inr, length-append}
 use Rattle.std.specs.Prelude.{◌⊎◌, ◌↔◌, ⊤}
-use Rattle.std.specs.List.{AllByRecursion}
 use Rattle.std.specs.Str.{bytes_eq}
 use Rattle.std.proofs.lemmas.Slice.Eq.{bytes_eq-Decides}
 use Rattle.std.proofs.lemmas.Bool.Decides.{not_from_Decides}
@@ -241,12 +240,16 @@ module _ (n : ℕ) where
               → ((server ≡ here)
               × ((now.worlds server).pages ≡ (run.worlds server).pages ++ added ∷ []))
               ⊎ ((server ≢ here) × ((now.worlds server).pages ≡ (run.worlds server).pages))
-          of (inl same) = inl (same,
-              ap (λ (k : ℕ). (now.worlds k).pages) same
-              ∙ ap (λ (w : World). w.pages) (put-same run.worlds here world) ∙ after
-              ∙ ap (λ (k : ℕ). (run.worlds k).pages ++ added ∷ []) (sym same))
-          of (inr apart) = inr (apart,
-              ap (λ (w : World). w.pages) (put-other run.worlds here server world apart))
+          of (inl same) = inl (
+            same,
+            ap (λ (k : ℕ). (now.worlds k).pages) same
+                ∙ ap (λ (w : World). w.pages) (put-same run.worlds here world) ∙ after
+                ∙ ap (λ (k : ℕ). (run.worlds k).pages ++ added ∷ []) (sym same),
+          )
+          of (inr apart) = inr (
+            apart,
+            ap (λ (w : World). w.pages) (put-other run.worlds here server world apart),
+          )
 
       some-same : (a b : ℕ) → Some a ≡ Some b → a ≡ b
       some-same a b is = cc

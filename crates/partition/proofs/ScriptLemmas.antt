@@ -1,6 +1,6 @@
 -- The scripts of a farm and the worlds of its servers, place by place.
 use Rattle.std.proofs.Common.{◌≡◌, ◌≢◌, ℕ, ◌+◌, ◌<◌, ◌≤◌, List, [], ◌∷◌, ◌++◌, length, get_or, set, refl, sym, ap, ◌∙◌, arith, subst, inl, inr, length-append, cond, true, false, Bool, zero, suc, take, Option, Some, None}
-use Rattle.std.specs.Prelude.{◌==◌, ◌⊎◌, MatchOption, is_some, ⊤}
+use Rattle.std.specs.Prelude.{◌==◌, ◌⊎◌, MatchOption, is_some}
 use Rattle.std.proofs.lemmas.Bool.Decides.{nat_tests}
 use Rattle.std.proofs.lemmas.List.{get_or-set_same, get_or-set_other, get_or_append_left, length-set, set-get_or}
 use Rattle.std.proofs.Math.Seq.{get_or-append_seam}

@@ -1,6 +1,6 @@
 -- A run that a farm stands for takes a line.
-use Rattle.std.proofs.Common.{◌≡◌, ◌≢◌, ℕ, ◌+◌, ◌<◌, ◌≤◌, Bool, true, false, cond, List, [], ◌∷◌, ◌++◌, length, get_or, set, Option, Some, None, refl, sym, ap, ◌∙◌, arith, subst, inl, inr, append-nil, length-append}
-use Rattle.std.specs.Prelude.{◌==◌, ◌⊎◌, decimal, map, ⊤}
+use Rattle.std.proofs.Common.{◌≡◌, ◌≢◌, ℕ, ◌+◌, ◌<◌, Bool, true, false, cond, List, [], ◌∷◌, ◌++◌, length, set, Option, Some, None, refl, sym, ap, ◌∙◌, arith, subst, inl, inr, append-nil, length-append}
+use Rattle.std.specs.Prelude.{◌==◌, ◌⊎◌}
 use Rattle.std.specs.List.{AllByRecursion}
 use Rattle.keeper.specs.declared.keeping.Keeper.{Ghosts}
 use Rattle.placement.specs.Placement.{server_of_key}
@@ -11,13 +11,13 @@ use Rattle.page_script.specs.declared.line.Line.TheVariants as lines
 use Rattle.page_script.specs.declared.line.PageLine.{PageLine}
 use Rattle.page_script.specs.declared.script.Script.{Script}
 use Rattle.page_script.specs.World.{World, WorldTurn, WorldStep, PageSteps, world_from, page_in, with_events, HasName, most_pages}
-use Rattle.page_script.specs.ScriptStands.{ScriptStands, WorldTakes, IsAppended}
+use Rattle.page_script.specs.ScriptStands.{WorldTakes}
 use Rattle.page_script.proofs.PlaceLemmas.{All-append, All-more}
 use Rattle.partition.specs.declared.farm_script.FarmScript.{FarmScript}
-use Rattle.partition.specs.Farm.{FarmLine, FarmRun, FarmStep, IsFarmRun, EndsLine, OwnKeys, ServerTakes, farm_text, text_of, empty_run, server_opening}
+use Rattle.partition.specs.Farm.{FarmLine, FarmRun, FarmStep, IsFarmRun, EndsLine, OwnKeys, ServerTakes, farm_text, empty_run, server_opening}
 use Rattle.partition.specs.FarmStands.{FarmStands, FarmTakes, NamesStand, ScriptsStand, servers_of}
 use Rattle.partition.specs.Limited.{limited}
-use Rattle.partition.specs.Shares.{MayFollow, home_of, is_for, is_home, page_count}
+use Rattle.partition.specs.Shares.{MayFollow, home_of, is_home}
 use Rattle.partition.proofs.FarmLemmas.{IsFarmRun-push}
 use Rattle.partition.proofs.HomeLemmas.{Alike, Alike-same, Alike-at, NamesStand-alike, NamesStand-page, page_run, own-at, home-silent, count-more, count-none}
 use Rattle.partition.proofs.KeyLemmas.{acts-own, asked-key}

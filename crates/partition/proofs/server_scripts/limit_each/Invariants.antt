@@ -1,4 +1,4 @@
-use Rattle.std.proofs.Common.{◌≡◌, ℕ, length}
+use Rattle.std.proofs.Common.{ℕ}
 use Rattle.page_script.specs.World.{World}
 use Rattle.partition.specs.FarmStands.{ScriptsStand}
 use Rattle.partition.proofs.ScriptLemmas.{LimitedUpTo}

@@ -1,4 +1,4 @@
-use Rattle.std.proofs.Common.{◌≡◌, ℕ, List, [], ◌∷◌, ◌++◌, length, refl, sym, ap, ◌∙◌, arith, rules, subst, length-append}
+use Rattle.std.proofs.Common.{◌≡◌, List, [], ◌∷◌, ◌++◌, length, refl, sym, ap, arith, rules, subst, length-append}
 use Rattle.std.proofs.lemmas.Iterator.Adapters.{YieldsList-from_vec}
 use Rattle.std.proofs.lemmas.Iterator.Consumers.{YieldsList-end}
 use Rattle.page_script.specs.declared.script.Script.{Script}
@@ -15,8 +15,13 @@ loop-keeper-preserved g c =
     let pushed : c.push.new.self.items ≡ old ++ c.new.result ∷ [] = c.in_ok-push.ensures.items in
     let long = ap length pushed in
     let count = c.loop-keeper.invariant.count in record {
-      count = omega (arith, long, count, length-append old (c.new.result ∷ []),
-          length-append c.loop-keeper.yielded (c.in-Some.keeper ∷ []));
+      count = omega (
+        arith,
+        long,
+        count,
+        length-append old (c.new.result ∷ []),
+        length-append c.loop-keeper.yielded (c.in-Some.keeper ∷ []),
+      );
       stand =
           subst (λ (ss : List (Script _)). ScriptsStand g.K.Keeper ss
           (λ server. world_from server_opening)) (sym pushed)

@@ -1,9 +1,6 @@
-use Rattle.std.proofs.Common.{◌≡◌, ℕ, List, [], ◌++◌, ◌∷◌, refl, sym, ap, ◌∙◌, append-nil, inl, inr}
-use Rattle.std.specs.Prelude.{◌⊎◌, decimal, ⊤}
+use Rattle.std.proofs.Common.{◌++◌, ◌∷◌, refl, sym, ap, ◌∙◌, append-nil, inl, inr}
+use Rattle.std.specs.Prelude.{decimal, ⊤}
 use Rattle.std.proofs.lemmas.List.{length-set}
-use Rattle.page_script.specs.declared.line.Line.TheVariants as lines
-use Rattle.page_script.specs.ScriptStands.{ScriptStands, WorldTakes}
-use Rattle.partition.specs.FarmStands.{FarmStands, FarmTakes}
 use Rattle.partition.proofs.ScriptLemmas.{ScriptsStand-stays, set-stays}
 use Rattle.partition.proofs.TakeLemmas.{farm-stays, unused-no_step, step-taken}
 use Rattle.partition.proofs.farm_script.FarmScript.step.Goals as goal
