@@ -1,0 +1,2 @@
+pub mod FarmDrive
+pub mod FarmRunning
