@@ -264,13 +264,13 @@ module _ {K : Type 0} (G : keepers.Ghosts K) where
         → Takes sink sink' (whole ++ last)
         → IsFarm G now.scripts most (flow source source' sink sink') (ends.Over verdict)
     over_farm verdicts.Whole ended whole last (inl (closes, end, some)) took =
-        by_run (ends.Over verdicts.Whole) ended now.held whole closes.2
-        (end, closes.3, some, wrote _ whole closes.2.printed
+        by_run (ends.Over verdicts.Whole) ended now.held whole closes.2.0
+        (end, closes.2.1, some, wrote _ whole closes.2.0.printed
         (whole_only sink sink' whole last closes.0 took))
     over_farm verdicts.Broken ended whole last (inl (closes, end, some)) took =
-        by_run (ends.Over verdicts.Broken) ended now.held whole closes.2 (
-          inr ((closes.3, inr (closes.4, end)), some),
-          wrote _ whole closes.2.printed (whole_only sink sink' whole last closes.0 took),
+        by_run (ends.Over verdicts.Broken) ended now.held whole closes.2.0 (
+          inr ((closes.2.1, inr (closes.2.2, end)), some),
+          wrote _ whole closes.2.0.printed (whole_only sink sink' whole last closes.0 took),
         )
     over_farm verdicts.Whole ended whole last (inr (more, breaks, room)) took = absurd breaks.2
     over_farm verdicts.Broken ended whole last (inr (more, breaks, room)) took = of breaks.2.1
