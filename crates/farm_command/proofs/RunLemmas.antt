@@ -264,9 +264,13 @@ module _ {K : Type 0} (G : keepers.Ghosts K) where
         → Takes sink sink' (whole ++ last)
         → IsFarm G now.scripts most (flow source source' sink sink') (ends.Over verdict)
     over_farm verdicts.Whole ended whole last (inl (closes, end, some)) took =
-        by_run (ends.Over verdicts.Whole) ended now.held whole closes.2.0
-        (end, closes.2.1, some, wrote _ whole closes.2.0.printed
-        (whole_only sink sink' whole last closes.0 took))
+        by_run (ends.Over verdicts.Whole) ended now.held whole closes.2.0 (
+          end,
+          closes.2.1,
+          some,
+          wrote _ whole closes.2.0.printed
+              (whole_only sink sink' whole last closes.0 took),
+        )
     over_farm verdicts.Broken ended whole last (inl (closes, end, some)) took =
         by_run (ends.Over verdicts.Broken) ended now.held whole closes.2.0 (
           inr ((closes.2.1, inr (closes.2.2, end)), some),
@@ -280,9 +284,11 @@ module _ {K : Type 0} (G : keepers.Ghosts K) where
             → IsFarm G now.scripts most (flow source source' sink sink')
             (ends.Over verdicts.Broken)
         of (inl wrong) =
-            by_run (ends.Over verdicts.Broken) ended now.held whole breaks.2.0
-            (inl wrong, wrote _ whole breaks.2.0.printed
-            (whole_only sink sink' whole last breaks.0 took))
+            by_run (ends.Over verdicts.Broken) ended now.held whole breaks.2.0 (
+              inl wrong,
+              wrote _ whole breaks.2.0.printed
+                  (whole_only sink sink' whole last breaks.0 took),
+            )
         of (inr (unseen, long, is)) =
             by_run (ends.Over verdicts.Broken) ended now.held whole breaks.2.0 (
               inr ((unseen, inl long), room_more more (length ended.taken) most is room),
