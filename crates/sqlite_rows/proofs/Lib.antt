@@ -6,6 +6,7 @@ pub mod HasLemmas
 pub mod InsertLemmas
 pub mod KeyLemmas
 pub mod KnownLemmas
+pub mod MakeLemmas
 pub mod MoveLemmas
 pub mod NumberLemmas
 pub mod OthersLemmas

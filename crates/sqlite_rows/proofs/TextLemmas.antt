@@ -1,7 +1,7 @@
 -- What the texts of the statements mean, found by computation.
 use Rattle.std.proofs.Common.{◌≡◌, ℕ, pos, negsuc, List, [], ◌∷◌, codes, false, Some, None, refl}
 use Rattle.sqlite.specs.Command.{Command}
-use Rattle.sqlite.specs.Command.TheVariants.{Delete, InsertOr, Select, Update}
+use Rattle.sqlite.specs.Command.TheVariants.{Delete, InsertOr, Nothing, Select, Update}
 use Rattle.sqlite.specs.Listing.{understood, reads_listing}
 use Rattle.sqlite.specs.Query.{Query}
 use Rattle.sqlite.specs.Term.{Term, lit, col, op2}
@@ -22,7 +22,7 @@ use Rattle.sqlite_rows.specs.Tables.{known}
 use Rattle.sqlite_rows.specs.Cookies.{falling}
 use Rattle.sqlite_rows.specs.Dues.{rising}
 use Rattle.sqlite_rows.specs.Selects.{select}
-use Rattle.sqlite_rows.specs.Texts.{get_text, put_text, cut_text, due_text, first_text, move_text, drop_text, all_cookies_text, last_text, set_last_text, greatest_text}
+use Rattle.sqlite_rows.specs.Texts.{get_text, put_text, cut_text, due_text, first_text, move_text, drop_text, all_cookies_text, last_text, set_last_text, greatest_text, make_items_text, index_items_text, make_items2_text, index_items2_text, make_cookies_text, begin_cookies_text}
 
 abbrev pub no_limit : Term
 no_limit = lit (Int (negsuc 0))
@@ -224,3 +224,50 @@ greatest_is = (refl, refl)
 pub greatest_plain : IsPlain (understood known greatest_text)
 unfolding understood everything
 greatest_plain = (refl, refl)
+
+-- ---- the row of the last cookie, where there is none
+
+abbrev pub begin_terms : List Term
+begin_terms = lit (Int (pos 1)) ∷ lit Null ∷ lit (Int (pos 0)) ∷ []
+
+-- where the row is there, it stays
+abbrev pub begin_clause : Upsert
+begin_clause = record { target = Some (0 ∷ []); update = None }
+
+abbrev pub begin_command : Command
+begin_command = InsertOr 2 Abort (Values begin_terms 3) (begin_clause ∷ [])
+
+pub begin_is : command_of (understood known begin_cookies_text) ≡ begin_command
+unfolding understood everything
+begin_is = refl
+
+pub begin_plain : IsPlain (understood known begin_cookies_text)
+unfolding understood everything
+begin_plain = (refl, refl)
+
+-- ---- the tables, which are there
+
+-- where the text is understood it does nothing
+abbrev pub DoesNothing : List ℕ → Type 0
+DoesNothing text = (command_of (understood known text) ≡ Nothing)
+    × IsPlain (understood known text)
+
+pub make_items_is : DoesNothing make_items_text
+unfolding understood everything
+make_items_is = (refl, refl, refl)
+
+pub index_items_is : DoesNothing index_items_text
+unfolding understood everything
+index_items_is = (refl, refl, refl)
+
+pub make_items2_is : DoesNothing make_items2_text
+unfolding understood everything
+make_items2_is = (refl, refl, refl)
+
+pub index_items2_is : DoesNothing index_items2_text
+unfolding understood everything
+index_items2_is = (refl, refl, refl)
+
+pub make_cookies_is : DoesNothing make_cookies_text
+unfolding understood everything
+make_cookies_is = (refl, refl, refl)

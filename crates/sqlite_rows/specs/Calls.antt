@@ -20,3 +20,8 @@ pub record WritesItems (old new : State) : Type 0 where
   pub others : KeepsOtherTables old.now.trees new.now.trees
   pub was_open : IsTrue old.is_open
   pub mode : new.in_transaction ≡ false
+
+-- Where the connection is open it was open, and where the tables stood alone it is as it was.
+pub record KeepsKnown (old new : State) : Type 0 where
+  pub was_open : IsTrue new.is_open → IsTrue old.is_open
+  pub same : IsKnown old → IsTrue new.is_open → KeepsDatabase old new

@@ -42,3 +42,30 @@ set_last_text = codes "UPDATE cookies SET last = ?1 WHERE id = 1"
 
 abbrev pub greatest_text : List ℕ
 greatest_text = codes "SELECT cookie FROM items2 ORDER BY cookie DESC, key LIMIT 1"
+
+-- the texts that make the tables and their indexes where they are absent
+abbrev pub make_items_text : List ℕ
+make_items_text = codes "CREATE TABLE IF NOT EXISTS items (key BLOB PRIMARY KEY, "
+    ++ codes "body BLOB NOT NULL, minutes INTEGER NOT NULL, fresh INTEGER NOT NULL, "
+    ++ codes "cookie INTEGER NOT NULL, since INTEGER NOT NULL, touched INTEGER NOT NULL, "
+    ++ codes "expiry INTEGER NOT NULL)"
+
+abbrev pub index_items_text : List ℕ
+index_items_text = codes "CREATE INDEX IF NOT EXISTS items_by_expiry ON items (expiry, key)"
+
+abbrev pub make_items2_text : List ℕ
+make_items2_text = codes "CREATE TABLE IF NOT EXISTS items2 (key BLOB PRIMARY KEY, "
+    ++ codes "body BLOB NOT NULL, minutes INTEGER NOT NULL, fresh INTEGER NOT NULL, "
+    ++ codes "cookie INTEGER NOT NULL, since INTEGER NOT NULL, touched INTEGER NOT NULL, "
+    ++ codes "ends INTEGER NOT NULL, expiry INTEGER NOT NULL)"
+
+abbrev pub index_items2_text : List ℕ
+index_items2_text = codes "CREATE INDEX IF NOT EXISTS items2_by_expiry ON items2 (expiry, key)"
+
+abbrev pub make_cookies_text : List ℕ
+make_cookies_text = codes "CREATE TABLE IF NOT EXISTS cookies (id INTEGER PRIMARY KEY, "
+    ++ codes "last INTEGER NOT NULL)"
+
+abbrev pub begin_cookies_text : List ℕ
+begin_cookies_text =
+    codes "INSERT INTO cookies (id, last) VALUES (1, 0) ON CONFLICT (id) DO NOTHING"

@@ -7,15 +7,21 @@ ghost use Rattle.sqlite_rules.specs.Lists.{Has};
 ghost use Rattle.sqlite.specs.Held.{state};
 ghost use Rattle.sqlite.specs.Values.{bound};
 ghost use Rattle.sqlite_rows.specs.Calls.{IsKnown, KeepsDatabase};
-ghost use Rattle.sqlite_rows.specs.Cookies.{FindsGreatest, SetsLast, ShowsAll, ShowsGreatest};
+ghost use Rattle.sqlite_rows.specs.Cookies.{FindsGreatest, IsLast, SetsLast, ShowsAll, ShowsGreatest};
 ghost use Rattle.sqlite_rows.specs.Cookies.{ShowsLast};
 ghost use Rattle.sqlite_rows.specs.Tables.{cookies_tree, items2_tree};
 
 use sqlite::types::ValueRef;
 use sqlite::{Alter, Connection, Error, Row};
 
-/// Writes the row of the last cookie, which is 0, where there is none.
-pub fn begin_cookies<S: Alter>(conn: &mut Connection<S>) -> Result<usize, Error> {
+/// Writes the row of the last cookie, which is 0, where there is none. One that is there stays.
+pub fn begin_cookies<S: Alter>(conn: &mut Connection<S>) -> Result<usize, Error>
+    ensures stays { (last : ℤ) → IsLast ((state S.Store conn.old).now.trees cookies_tree) last
+        → IsKnown (state S.Store conn.old) → IsTrue (state S.Store conn.new).is_open
+        → OnOk result (KeepsDatabase (state S.Store conn.old) (state S.Store conn.new)) }
+    ensures opened { IsTrue (state S.Store conn.new).is_open
+        → IsTrue (state S.Store conn.old).is_open }
+{
     conn.execute(
         "INSERT INTO cookies (id, last) VALUES (1, 0) ON CONFLICT (id) DO NOTHING",
         &[],
