@@ -22,7 +22,7 @@ use Rattle.sqlite_rows.specs.Uniques.{HaveOwnKeys}
 use Rattle.sqlite_rows.proofs.KeyLemmas.{bytes_eq-refl}
 use Rattle.keeper.specs.declared.keeping.KeepError.{KeepError}
 use Rattle.session_machine.specs.declared.item.Item.{Item}
-use Rattle.sqlite_keeper.specs.Blocks.{HoldsBelow, IsGreatestHeld, ReadsHeld, TellsBlock, TellsHeld, stored_answer, told_last}
+use Rattle.sqlite_keeper.specs.Blocks.{HoldsBelow, IsBlockFrom, IsGreatestHeld, ReadsHeld, TellsBlock, TellsHeld, stored_answer, told_last}
 use Rattle.sqlite_keeper.specs.declared.cookie_block.CookieBlock.{CookieBlock}
 use Rattle.sqlite_keeper.specs.declared.failure.Failure.{Failure}
 use Rattle.sqlite_keeper.specs.Failures.{keeper_answer}
@@ -161,3 +161,11 @@ pub below_if : (told : Option (List ℕ → Option Item)) (last at_least : ℕ)
     → IfOk r (λ block. IfSome block (λ b. HoldsBelow told b.first))
 below_if told last at_least (Ok block) t = below told last at_least block t
 below_if told last at_least (Err e) t = tt
+
+pub last_in_range : {E : Type 0} (last at_least : ℕ) (r : Result (Option CookieBlock) E)
+    → last < 2 ^ 63 → IfOk r (λ block. IfSome block (IsBlockFrom at_least))
+    → told_last last r < 2 ^ 63
+last_in_range last at_least (Ok (Some block)) low is =
+    let ends = is.last in omega (arith, ends)
+last_in_range last at_least (Ok None) low is = low
+last_in_range last at_least (Err e) low is = low

@@ -1,5 +1,5 @@
 -- What the keeper tells before and after a call.
-use Rattle.std.proofs.Common.{◌≡◌, inl, inr, ℕ, pos, List, Bool, true, false, cond, Some, None, Option, Ok, Err, Result, OnOk, refl, sym, ap, subst, ◌∙◌, true≢false}
+use Rattle.std.proofs.Common.{◌≡◌, inl, inr, ℕ, ◌<◌, ◌^◌, pos, List, Bool, true, false, cond, Some, None, Option, Ok, Err, Result, OnOk, refl, sym, ap, subst, ◌∙◌, true≢false}
 use Rattle.std.specs.Prelude.{IfOk, IsTrue, OnErr, ◌&&◌, ⊤}
 use Rattle.sqlite.specs.Held.{Held, state}
 use Rattle.sqlite.specs.State.{State}
@@ -84,7 +84,7 @@ module _ {S : Type 0} (g : Ghosts S) (was is : Held S) (knows : Bool) (last m f 
 
   where_told : may_tell g new ≡ true → Tells
   where_told e = let both = when knows after.is_open e in let o = opened both.1 in
-      (both.0, both.1, o, (inv both.0 o).0)
+      (both.0, both.1, o, (inv.rests both.0 o).0)
 
   same_rows : KeepsDatabase before after → rows_in after ≡ rows_in before
   same_rows s = ap (λ (d : Rattle.sqlite.specs.Effect.Database). d.trees 3) s.now
@@ -193,20 +193,26 @@ module _ {S : Type 0} (g : Ghosts S) (was is : Held S) (knows : Bool) (last m f 
   pub keeps_block : (IsKnown before → IsTrue after.is_open → IsKnown after)
       → (IsKnown before → IsTrue after.is_open → rows_in after ≡ rows_in before)
       → (IsKnown before → IsTrue after.is_open → IsLast (cookies_in before) (pos last)
-      → IsLast (cookies_in after) (pos m)) → KeepsRows g knows m is
-  keeps_block known rows cookies k o =
-      let i = inv k (opened o) in
-      let is_known = i.0.0 in (
-        (known is_known o, subst AreNumbered (sym (rows is_known o)) i.0.1),
-        cookies is_known o i.1,
-      )
+      → IsLast (cookies_in after) (pos m)) → m < 2 ^ 63 → KeepsRows g knows m is
+  keeps_block known rows cookies range = record {
+    in_range = range;
+    rests = λ k o.
+        let i = inv.rests k (opened o) in
+        let is_known = i.0.0 in (
+          (known is_known o, subst AreNumbered (sym (rows is_known o)) i.0.1),
+          cookies is_known o i.1,
+        );
+  }
 
   pub keeps : (Rests before → IsTrue after.is_open → Rests after)
       → (Rests before → IsTrue after.is_open → cookies_in after ≡ cookies_in before)
       → KeepsRows g knows last is
-  keeps rests cookies k o =
-      let i = inv k (opened o) in
-      (rests i.0 o, subst (λ xs. IsLast xs (pos last)) (sym (cookies i.0 o)) i.1)
+  keeps rests cookies = record {
+    in_range = inv.in_range;
+    rests = λ k o.
+        let i = inv.rests k (opened o) in
+        (rests i.0 o, subst (λ xs. IsLast xs (pos last)) (sym (cookies i.0 o)) i.1);
+  }
 
   -- a call that leaves the database
   pub keeps_all : (IsKnown before → IsTrue after.is_open → KeepsDatabase before after)

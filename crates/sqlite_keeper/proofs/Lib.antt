@@ -4,4 +4,5 @@ pub mod DueLemmas
 pub mod ItemLemmas
 pub mod KeepLemmas
 pub mod OpenLemmas
+pub mod ReadyLemmas
 pub mod SaysLemmas

@@ -1,6 +1,6 @@
 -- A keeper over a connection, as contracts see it, what it rests on, what it tells, and how it
 -- counts.
-use Rattle.std.specs.Prelude.{◌≡◌, ℕ, ◌-◌, ◌^◌, ◌&&◌, Bool, List, pos, min, refl, Option, None, if◌then◌else◌, Result, Ok, Err, IsTrue}
+use Rattle.std.specs.Prelude.{◌≡◌, ℕ, ◌<◌, ◌-◌, ◌^◌, ◌&&◌, Bool, List, pos, min, refl, Option, None, if◌then◌else◌, Result, Ok, Err, IsTrue}
 use Rattle.std.specs.Coded.{Coded, code_by, coded×, coded_ℕ, coded_bool}
 use Rattle.asp_base.specs.InMemory.{counted_once_more}
 use Rattle.keeper.specs.declared.keeping.KeepError.{KeepError}
@@ -56,11 +56,12 @@ abbrev pub told_by : {S : Type 0} → Ghosts S → OverDatabase (Held S)
     → Option (List ℕ → Option Item)
 told_by g k = if may_tell g k then told_rows (rows_in (state g k.connection)) else None
 
--- what a keeper keeps true of its connection
-abbrev pub KeepsRows : {S : Type 0} → Ghosts S → Bool → ℕ → Held S → Type 0
-KeepsRows g knows last connection =
-    IsTrue knows → IsTrue (state g connection).is_open
-    → Rests (state g connection) × IsLast (cookies_in (state g connection)) (pos last)
+-- What a keeper keeps true: its last cookie is in range, and its connection is what it rests on.
+pub record KeepsRows {S : Type 0} (g : Ghosts S) (knows : Bool) (last : ℕ) (connection : Held S)
+    : Type 0 where
+  pub in_range : last < 2 ^ 63
+  pub rests : IsTrue knows → IsTrue (state g connection).is_open
+      → Rests (state g connection) × IsLast (cookies_in (state g connection)) (pos last)
 
 -- the count of faults that it tells, up to the last value of a `u64`
 abbrev pub told_faults : ℕ → ℕ

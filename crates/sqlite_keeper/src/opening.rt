@@ -1,15 +1,16 @@
 //! What makes a database ready for a keeper: its tables, the move of old rows, and whether it has
 //! these tables and nothing else.
-ghost use Rattle.std.specs.Prelude.{◌≡◌, pos, IfOk, IsTrue, Ok};
+ghost use Rattle.std.specs.Prelude.{◌≡◌, pos, IfOk, IsTrue, Ok, OnOk};
 ghost use Rattle.sqlite_trees.specs.View.{IsClean};
 ghost use Rattle.sqlite_trees.specs.declared.store.Shape.TheVariants.{Table};
 ghost use Rattle.sqlite.specs.Held.{state};
 ghost use Rattle.sqlite.specs.Steps.{IsFresh};
-ghost use Rattle.sqlite_rows.specs.Calls.{IsKnown, KeepsDatabase};
+ghost use Rattle.sqlite_rows.specs.Calls.{IsKnown, KeepsDatabase, KeepsKnown};
 ghost use Rattle.sqlite_rows.specs.Cookies.{IsLast};
 ghost use Rattle.sqlite_rows.specs.Numbers.{AreNumbered};
 ghost use Rattle.sqlite_rows.specs.Tables.{cookies_tree, items2_tree};
 ghost use Rattle.sqlite_keeper.specs.Keeping.{cookies_in, rows_in};
+ghost use Rattle.sqlite_keeper.specs.Opening.{HasRowsOf, KeepsReady};
 ghost use Rattle.sqlite_keeper.specs.Rows.{IsNumberAt, IsOneLast};
 
 use crate::failure::Failure;
@@ -17,7 +18,8 @@ use crate::moving::move_rows;
 use crate::rows::number;
 use asp_messages::MOST_COOKIE;
 use sqlite::{Alter, Connection, Error, ErrorCode, Row};
-use sqlite_rows::{all_cookies, begin_cookies, is_known, last_row};
+use sqlite_rows::{all_cookies, begin_cookies, index_items, index_items2, is_known, last_row};
+use sqlite_rows::{make_cookies, make_items, make_items2, understand};
 use sqlite_trees::store::{Shape, Store};
 use std::alloc::Global;
 
@@ -25,25 +27,6 @@ use std::alloc::Global;
 const ITEMS2_TREE: u32 = 3;
 
 const COOKIES_TREE: u32 = 6;
-
-/// The table of earlier versions, whose items had no end of their own. Its rows are moved.
-const MAKE_OLD_TABLE: &str = "CREATE TABLE IF NOT EXISTS items (key BLOB PRIMARY KEY, \
-    body BLOB NOT NULL, minutes INTEGER NOT NULL, fresh INTEGER NOT NULL, \
-    cookie INTEGER NOT NULL, since INTEGER NOT NULL, touched INTEGER NOT NULL, \
-    expiry INTEGER NOT NULL)";
-
-const MAKE_OLD_INDEX: &str = "CREATE INDEX IF NOT EXISTS items_by_expiry ON items (expiry, key)";
-
-const MAKE_TABLE: &str = "CREATE TABLE IF NOT EXISTS items2 (key BLOB PRIMARY KEY, \
-    body BLOB NOT NULL, minutes INTEGER NOT NULL, fresh INTEGER NOT NULL, \
-    cookie INTEGER NOT NULL, since INTEGER NOT NULL, touched INTEGER NOT NULL, \
-    ends INTEGER NOT NULL, expiry INTEGER NOT NULL)";
-
-/// With it the look for an item that has expired reads one row, however many there are.
-const MAKE_INDEX: &str = "CREATE INDEX IF NOT EXISTS items2_by_expiry ON items2 (expiry, key)";
-
-const MAKE_COOKIES: &str =
-    "CREATE TABLE IF NOT EXISTS cookies (id INTEGER PRIMARY KEY, last INTEGER NOT NULL)";
 
 /// Never run, as the other forms. It is understood only where the table has these columns, and no
 /// two rows with one key.
@@ -65,32 +48,68 @@ const COOKIE_NAMES: &str =
 
 const COOKIE_COUNT: &str = "INSERT INTO cookies VALUES (?1, ?2)";
 
-/// Understands each text, and runs none.
-fn understand<S: Alter>(connection: &mut Connection<S>, texts: &[&str]) -> Result<(), Error> {
-    for text in texts {
-        connection.prepare(text)?;
-    }
+/// Understands both texts, and runs neither.
+fn understand_both<S: Alter>(
+    connection: &mut Connection<S>,
+    names: &str,
+    count: &str,
+) -> Result<(), Error>
+    ensures { OnOk result (KeepsKnown (state S.Store connection.old)
+        (state S.Store connection.new)) }
+{
+    understand(connection, names)?;
+    understand(connection, count)
+}
+
+/// Makes the table of earlier versions and its index where they are absent.
+fn make_old_table<S: Alter>(connection: &mut Connection<S>) -> Result<(), Error>
+    ensures { OnOk result (KeepsKnown (state S.Store connection.old)
+        (state S.Store connection.new)) }
+{
+    make_items(connection)?;
+    understand_both(connection, OLD_NAMES, OLD_COUNT)?;
+    index_items(connection)?;
     Ok(())
+}
+
+/// Makes the table of the items and its index where they are absent.
+fn make_table<S: Alter>(connection: &mut Connection<S>) -> Result<(), Error>
+    ensures { OnOk result (KeepsKnown (state S.Store connection.old)
+        (state S.Store connection.new)) }
+{
+    make_items2(connection)?;
+    understand_both(connection, NAMES, COUNT)?;
+    index_items2(connection)?;
+    Ok(())
+}
+
+/// Makes the table of the last cookie where it is absent.
+fn make_last_table<S: Alter>(connection: &mut Connection<S>) -> Result<(), Error>
+    ensures { OnOk result (KeepsKnown (state S.Store connection.old)
+        (state S.Store connection.new)) }
+{
+    make_cookies(connection)?;
+    understand_both(connection, COOKIE_NAMES, COOKIE_COUNT)
 }
 
 /// Makes the tables and their indexes where they are absent, always in one order, and understands
 /// the forms of each. So a table of another form is refused here, before anything is made after it.
-fn make<S: Alter>(connection: &mut Connection<S>) -> Result<(), Error> {
-    connection.execute(MAKE_OLD_TABLE, &[])?;
-    understand(connection, &[OLD_NAMES, OLD_COUNT])?;
-    connection.execute(MAKE_OLD_INDEX, &[])?;
-    connection.execute(MAKE_TABLE, &[])?;
-    understand(connection, &[NAMES, COUNT])?;
-    connection.execute(MAKE_INDEX, &[])?;
-    connection.execute(MAKE_COOKIES, &[])?;
-    understand(connection, &[COOKIE_NAMES, COOKIE_COUNT])?;
-    begin_cookies(connection)?;
-    Ok(())
+fn make<S: Alter>(connection: &mut Connection<S>) -> Result<(), Error>
+    ensures { OnOk result (KeepsKnown (state S.Store connection.old)
+        (state S.Store connection.new)) }
+{
+    make_old_table(connection)?;
+    make_table(connection)?;
+    make_last_table(connection)
 }
 
-/// Makes the tables, and moves the old rows.
-pub(crate) fn prepare<S: Alter>(connection: &mut Connection<S>) -> Result<(), Failure> {
+/// Makes the tables, with the row of the last cookie, and moves the old rows.
+pub(crate) fn prepare<S: Alter>(connection: &mut Connection<S>) -> Result<(), Failure>
+    ensures { OnOk result (KeepsReady (state S.Store connection.old)
+        (state S.Store connection.new)) }
+{
     make(connection)?;
+    begin_cookies(connection)?;
     move_rows(connection)
 }
 
@@ -117,6 +136,9 @@ fn over_store<S: Alter + Drop>(alloc: Global, store: S) -> Result<(Connection<S>
         → AreNumbered (rows_in (state S.Store r.0))) }
     ensures cookies { IfOk result (λ r. IsTrue r.1 → IsTrue (state S.Store r.0).is_open
         → AreNumbered (cookies_in (state S.Store r.0))) }
+    ensures kept { IfOk result (λ r. IsTrue (state S.Store r.0).is_open
+        → IsClean (S.Store.view store)
+        × ((state S.Store r.0).now.trees ≡ (S.Store.view store).trees)) }
 {
     let numbered = has_tables(&store);
     match Connection::over(alloc, store) {
@@ -135,6 +157,7 @@ pub(crate) fn reopen<S: Alter + Drop>(
         → AreNumbered (rows_in (state S.Store r.0))) }
     ensures cookies { IfOk result (λ r. IsTrue r.1 → IsTrue (state S.Store r.0).is_open
         → AreNumbered (cookies_in (state S.Store r.0))) }
+    ensures kept { IfOk result (λ r. HasRowsOf (state S.Store connection) (state S.Store r.0)) }
 {
     if !connection.is_autocommit() {
         return Ok((connection, false));

@@ -1,5 +1,5 @@
 //! The keeper.
-ghost use Rattle.std.specs.Prelude.{◌≡◌, ◌<◌, ◌-◌, ◌^◌, None, Some, IfOk, IfSome};
+ghost use Rattle.std.specs.Prelude.{◌≡◌, ◌<◌, ◌-◌, ◌^◌, ℕ, pos, None, Some, IfOk, IfSome};
 ghost use Rattle.std.specs.Prelude.{IsTrue, OnErr, OnOk};
 ghost use Rattle.asp_messages.specs.Ranges.{KeyFits};
 ghost use Rattle.session_machine.specs.Liveness.{ItemFits};
@@ -7,12 +7,16 @@ ghost use Rattle.keeper.specs.Due.{TellsDue};
 ghost use Rattle.keeper.specs.Items.{StillTells, TellsItem, TellsSets};
 ghost use Rattle.keeper.specs.KeeperCauses.{HasKeepCause};
 ghost use Rattle.sqlite.specs.Held.{state};
+ghost use Rattle.sqlite_rows.specs.Cookies.{IsLast};
 ghost use Rattle.sqlite_rows.specs.Numbers.{AreNumbered};
 ghost use Rattle.sqlite_keeper.specs.Blocks.{HoldsBelow, IsBlockFrom, IsCookie, TellsBlock};
 ghost use Rattle.sqlite_keeper.specs.Blocks.{told_last};
 ghost use Rattle.sqlite_keeper.specs.Failures.{keeper_answer};
-ghost use Rattle.sqlite_keeper.specs.Keeping.{cookies_in, faults_after, rows_in, told_by};
+ghost use Rattle.sqlite_keeper.specs.Keeping.{cookies_in, faults_after, may_tell, rows_in};
+ghost use Rattle.sqlite_keeper.specs.Keeping.{told_by};
 ghost use Rattle.sqlite_keeper.specs.Keeping.{told_faults};
+ghost use Rattle.sqlite_keeper.specs.Opening.{GoesOn, IsReady};
+ghost use Rattle.sqlite_keeper.specs.Told.{told_rows};
 
 use crate::blocks::{last_after, next_block};
 use crate::cookie_block::CookieBlock;
@@ -79,7 +83,11 @@ fn settle<S: Alter + Drop>(
         → AreNumbered (rows_in (state S.Store connection)) }
     requires cookies { IsTrue numbered → IsTrue (state S.Store connection).is_open
         → AreNumbered (cookies_in (state S.Store connection)) }
-    ensures { IfOk result (λ keeper. keeper.faults ≡ 0) }
+    ensures faults { IfOk result (λ keeper. keeper.faults ≡ 0) }
+    ensures goes_on { (last : ℕ) → IsLast (cookies_in (state S.Store connection)) (pos last)
+        → IfOk result (GoesOn S.Store (state S.Store connection) last) }
+    ensures opened { IfOk result (λ keeper. IsTrue (may_tell S.Store keeper)
+        → IsTrue (state S.Store connection).is_open) }
 {
     let mut connection = connection;
     let alone = stands_alone(&connection);
@@ -100,7 +108,9 @@ fn open_over<S: Alter + Drop>(
     alloc: Global,
     connection: Connection<S>,
 ) -> Result<SqliteKeeper<S>, Failure>
-    ensures { IfOk result (λ keeper. keeper.faults ≡ 0) }
+    ensures faults { IfOk result (λ keeper. keeper.faults ≡ 0) }
+    ensures goes_on { (last : ℕ) → IsReady (state S.Store connection) last
+        → IfOk result (GoesOn S.Store (state S.Store connection) last) }
 {
     let mut connection = connection;
     prepare(&mut connection)?;
@@ -121,7 +131,12 @@ impl<S: Alter + Drop> SqliteKeeper<S> {
     /// that is no key and item in range: it stays where it is, with the rows behind it. Those that
     /// were moved before a refusal stay moved. A last cookie out of range is a `Fault` too.
     pub fn over(alloc: Global, connection: Connection<S>) -> Result<SqliteKeeper<S>, KeepError>
-        ensures { IfOk result (λ keeper. keeper.faults ≡ 0) }
+        ensures faults { IfOk result (λ keeper. keeper.faults ≡ 0) }
+        ensures tells { (last : ℕ) → IsReady (state S.Store connection) last
+            → IfOk result (λ keeper. StillTells
+            (told_rows (rows_in (state S.Store connection))) (told_by S.Store keeper)) }
+        ensures last { (last : ℕ) → IsReady (state S.Store connection) last
+            → IfOk result (λ keeper. IsTrue (may_tell S.Store keeper) → keeper.last ≡ last) }
     {
         let mut faults = 0;
         let opened = open_over(alloc, connection);

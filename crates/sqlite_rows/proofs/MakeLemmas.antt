@@ -1,15 +1,19 @@
 -- What the statements do that make the tables, where these are there.
 use Rattle.std.proofs.Common.{◌≡◌, ◌⊎◌, inl, inr, ℕ, ℤ, pos, List, [], ◌∷◌, Bool, true, false, None, Some, Option, Ok, Err, Result, OnOk, refl, sym, ap, subst, ◌∙◌, true≢false}
-use Rattle.std.specs.Prelude.{IfOk, IsTrue}
+use Rattle.std.specs.Prelude.{IfOk, IsOk, IsTrue}
 use Rattle.std.proofs.lemmas.Cmp.{tied_itself}
 use Rattle.sqlite_value.specs.declared.value.Value.TheVariants.{Null, Int}
+use Rattle.sqlite_value.specs.Keys.{first_key}
 use Rattle.sqlite_value.specs.Order.{Row, column}
 use Rattle.sqlite_value.proofs.OrderLemmas.{value_cmp_total}
 use Rattle.sqlite_trees.specs.Tree.{Trees}
 use Rattle.sqlite_trees.specs.View.{doubt}
+use Rattle.sqlite_sql.specs.Ops.{binary}
 use Rattle.sqlite_schema.specs.declared.command.Command.TheVariants.{Nothing}
 use Rattle.sqlite_schema.specs.declared.command.Conflict.TheVariants.{Abort}
 use Rattle.sqlite_rules.specs.Cast.{cast_row}
+use Rattle.sqlite_rules.specs.Edit.{with_rowid}
+use Rattle.sqlite_rules.specs.declared.error.Rowids.TheVariants.{Chosen}
 use Rattle.sqlite_rules.specs.declared.error.Refusal.{Refusal}
 use Rattle.sqlite_rules.specs.Keys.{AreConflicts, conflicts}
 use Rattle.sqlite_rules.specs.Lists.{Has}
@@ -46,12 +50,14 @@ nothing_ok text old new (Ok count) is fits h =
 abbrev ShutIfDirty : State → Type 0
 ShutIfDirty s = s.is_clean ≡ false → s.is_open ≡ false
 
+clean_of : (clean is_open : Bool) → (clean ≡ false → is_open ≡ false) → is_open ≡ true
+    → doubt clean ≡ 0
+unfolding doubt
+clean_of true is_open law is = refl
+clean_of false is_open law is = absurd (true≢false (sym is ∙ law refl))
+
 open_clean : (s : State) → ShutIfDirty s → IsTrue s.is_open → HasCleanDisk s
-open_clean s law opened = clean_of s.is_clean s.is_open law opened
-  where
-    clean_of : (clean open : Bool) → (clean ≡ false → open ≡ false) → open ≡ true → doubt clean ≡ 0
-    clean_of true open law opened = refl
-    clean_of false open law opened = absurd (true≢false (sym opened ∙ law refl))
+open_clean s law is = clean_of s.is_clean s.is_open law is
 
 pub made : (text : List ℕ) (old new : State) (r : Result ℕ Error) → DoesNothing text
     → ShutIfDirty new → (HasCleanDisk new → Executes text [] old new r) → OnOk r (KeepsKnown old new)
@@ -61,12 +67,21 @@ made text old new (Ok count) is law runs = record {
   same = λ fits o. nothing_ok text old new (Ok count) is fits (runs (open_clean new law o));
 }
 
-pub understood_keeps : (old new : State) → ShutIfDirty new
+understood_keeps : (old new : State) → ShutIfDirty new
     → (HasCleanDisk new → IsUnchanged old new) → KeepsKnown old new
 understood_keeps old new law same = record {
   was_open = λ o. (same (open_clean new law o)).0.was_open;
   same = λ fits o. unchanged_keeps old new fits (same (open_clean new law o));
 }
+
+pub understood_ok : {T : Type 0} (P : T → Type 0) (old new : State) (s : Result T Error)
+    (r : Result (Unit {0}) Error) → ShutIfDirty new
+    → (HasCleanDisk new → IfOk s (λ x. P x × IsUnchanged old new)) → OnOk r (IsOk s)
+    → OnOk r (KeepsKnown old new)
+understood_ok P old new s (Err e) law same ok = tt
+understood_ok P old new (Err e) (Ok x) law same ok = absurd (true≢false (sym ok))
+understood_ok P old new (Ok s) (Ok x) law same ok =
+    understood_keeps old new law (λ clean. (same clean).1)
 
 -- ---- the row of the last cookie
 
@@ -90,8 +105,8 @@ record Ran (old new : State) : Type 0 where
   pub was_open : IsTrue old.is_open
   pub mode : new.in_transaction ≡ old.in_transaction
 
-cast_begin : cast_row cookies begin_row ≡ begin_row
-cast_begin = rw (cast_int (pos 1), cast_null, cast_int (pos 0))
+new_is : (rows : List Row) → with_rowid Chosen rows (cast_row cookies begin_row) ≡ begin_row
+new_is rows = rw (cast_int (pos 1), cast_null, cast_int (pos 0))
 
 ran : (old new : State) (count : ℕ) → old.now.schema ≡ known
     → Executes begin_cookies_text [] old new (Ok count) → Ran old new
@@ -114,7 +129,7 @@ ran old new count has h =
     record {
       one = one.0;
       tried = subst (λ r. Tries (task_of old) Abort (begin_clause ∷ []) r db (Ok one.0))
-          cast_begin one.1;
+          (new_is (db 6)) one.1;
       trees = ap (λ (d : Database). d.trees) now
           ∙ ap (λ (w : Written). w.trees) (same_value counted.2) ∙ same_value counted.1
           ∙ ap (λ (p : Written × ℤ). p.0.trees) (same_value one.2);
@@ -125,6 +140,7 @@ ran old new count has h =
 
 conflict_one : (row : Row) → column row 0 ≡ Int (pos 1)
     → conflicts (Some (0 ∷ [])) indexes cookies begin_row row ≡ true
+unfolding binary first_key
 conflict_one row is = rw (is, tied_itself value_cmp_total (Int (pos 1))) refl
 
 met : (old : State) (last : ℤ) (db : Trees) (found : List Row) (one : Written) → IsLast (db 6) last
@@ -149,7 +165,10 @@ tries old last db one is (inr h) =
     met old last db u.0 one is u.1 u.2
 
 same_database : (a b : Database) → a.schema ≡ b.schema → a.trees ≡ b.trees → a ≡ b
-same_database a b s t = cc
+same_database a b s t =
+    let one : a ≡ record { schema = b.schema; trees = a.trees } =
+    ap (λ x. record { schema = x; trees = a.trees }) s in
+    one ∙ ap (λ (x : Trees). record { schema = b.schema; trees = x }) t
 
 pub begin_ok : (last : ℤ) (old new : State) (r : Result ℕ Error) → IsKnown old
     → IsLast (old.now.trees 6) last → Executes begin_cookies_text [] old new r

@@ -254,20 +254,20 @@ DoesNothing text = (command_of (understood known text) ≡ Nothing)
 
 pub make_items_is : DoesNothing make_items_text
 unfolding understood everything
-make_items_is = (refl, refl, refl)
+make_items_is = (refl, (refl, refl))
 
 pub index_items_is : DoesNothing index_items_text
 unfolding understood everything
-index_items_is = (refl, refl, refl)
+index_items_is = (refl, (refl, refl))
 
 pub make_items2_is : DoesNothing make_items2_text
 unfolding understood everything
-make_items2_is = (refl, refl, refl)
+make_items2_is = (refl, (refl, refl))
 
 pub index_items2_is : DoesNothing index_items2_text
 unfolding understood everything
-index_items2_is = (refl, refl, refl)
+index_items2_is = (refl, (refl, refl))
 
 pub make_cookies_is : DoesNothing make_cookies_text
 unfolding understood everything
-make_cookies_is = (refl, refl, refl)
+make_cookies_is = (refl, (refl, refl))

@@ -1,10 +1,10 @@
 //! The statements that make the tables and their indexes where they are absent, and those that are
 //! understood and never run.
-ghost use Rattle.std.specs.Prelude.{OnOk};
+ghost use Rattle.std.specs.Prelude.{IsOk, OnOk};
 ghost use Rattle.sqlite.specs.Held.{state};
 ghost use Rattle.sqlite_rows.specs.Calls.{KeepsKnown};
 
-use sqlite::{Alter, Connection, Error};
+use sqlite::{Alter, Connection, Error, Statement};
 
 /// Makes the table of earlier versions, whose items had no end of their own.
 pub fn make_items<S: Alter>(conn: &mut Connection<S>) -> Result<usize, Error>
@@ -62,12 +62,20 @@ pub fn make_cookies<S: Alter>(conn: &mut Connection<S>) -> Result<usize, Error>
     )
 }
 
+/// Whether the text was understood.
+fn is_understood(statement: Result<Statement, Error>) -> Result<(), Error>
+    ensures { OnOk result (IsOk statement) }
+{
+    match statement {
+        Ok(_) => Ok(()),
+        Err(error) => Err(error),
+    }
+}
+
 /// Understands the text, and does not run it.
 pub fn understand<S: Alter>(conn: &mut Connection<S>, text: &str) -> Result<(), Error>
     ensures { OnOk result (KeepsKnown (state S.Store conn.old) (state S.Store conn.new)) }
 {
-    match conn.prepare(text) {
-        Ok(_) => Ok(()),
-        Err(error) => Err(error),
-    }
+    let statement = conn.prepare(text);
+    is_understood(statement)
 }

@@ -3,7 +3,7 @@ use Rattle.std.specs.Prelude.{IfOk}
 use Rattle.sqlite_keeper.specs.Blocks.{TellsBlock, told_last}
 use Rattle.sqlite_keeper.specs.Failures.{keeper_answer}
 use Rattle.sqlite_keeper.specs.Keeping.{told_by}
-use Rattle.sqlite_keeper.proofs.BlockLemmas.{below_if, last_of_answer}
+use Rattle.sqlite_keeper.proofs.BlockLemmas.{below_if, last_in_range, last_of_answer}
 use Rattle.sqlite_keeper.proofs.KeepLemmas.{answer_if_ok, block_by, keeps_block, still_rows}
 use Rattle.sqlite_keeper.proofs.sqlite_keeper.SqliteKeeper.block.Goals as goal
 
@@ -13,6 +13,8 @@ invariant_of-self g c = keeps_block g.S.Store c.self.inside.connection
     c.self.inside.faults c.answered.new.faults c.next_block-given.ensures.opened c.self.invariant
     c.next_block-given.ensures.known c.next_block-given.ensures.rows
     (λ k o i. rw c.last_after-self-inside.ensures (c.next_block-given.ensures.cookies k o i))
+    (rw c.last_after-self-inside.ensures (last_in_range c.self.inside.last c.args.at_least
+    c.next_block-given.result c.self.invariant.in_range c.next_block-given.ensures.block))
 
 pub returns-clause-told : goal.returns-clause-told
 returns-clause-told g c = block_by g.S.Store c.self.inside.connection
