@@ -7,6 +7,8 @@ mod cookies;
 #[cfg(test)]
 mod damaged;
 #[cfg(test)]
+mod failing;
+#[cfg(test)]
 mod keepers;
 #[cfg(test)]
 mod moves;
