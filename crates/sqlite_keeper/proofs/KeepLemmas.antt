@@ -54,11 +54,11 @@ answer_on_err P (Err e) p = p
 
 -- ---- what is told
 
-same_still : (a : Option (List ℕ → Option Item)) → StillTells a a
+pub same_still : (a : Option (List ℕ → Option Item)) → StillTells a a
 same_still None = tt
 same_still (Some x) = refl
 
-when : (a b : Bool) → (a && b) ≡ true → (a ≡ true) × (b ≡ true)
+pub when : (a b : Bool) → (a && b) ≡ true → (a ≡ true) × (b ≡ true)
 when true b h = (refl, h)
 when false b h = absurd (true≢false (sym h))
 

@@ -1,6 +1,6 @@
 -- Calls that leave tables as they were which are ready, one behind the other.
-use Rattle.std.proofs.Common.{◌≡◌, inl, inr, ℕ, ℤ, pos, List, Bool, true, false, cond, Some, None, Option, Ok, Err, Result, OnOk, refl, sym, ap, subst, ◌∙◌, true≢false}
-use Rattle.std.specs.Prelude.{IfOk, IsTrue}
+use Rattle.std.proofs.Common.{◌≡◌, inl, inr, ℕ, ℤ, ◌<◌, ◌^◌, pos, List, Bool, true, false, cond, Some, None, Option, Ok, Err, Result, OnOk, refl, sym, ap, subst, ◌∙◌, true≢false}
+use Rattle.std.specs.Prelude.{IfOk, IsTrue, not}
 use Rattle.std.proofs.lemmas.Bool.{cases_Bool}
 use Rattle.sqlite.specs.Effect.{Database}
 use Rattle.sqlite.specs.Held.{Held, state}
@@ -8,19 +8,21 @@ use Rattle.sqlite.specs.State.{State}
 use Rattle.sqlite.specs.declared.error.Error.{Error}
 use Rattle.sqlite_rules.specs.Lists.{Has}
 use Rattle.sqlite_trees.specs.declared.store.Store.{Ghosts}
+use Rattle.sqlite_trees.specs.Tree.{Trees}
 use Rattle.sqlite_trees.specs.View.{View, IsClean, IsRolledBack}
 use Rattle.sqlite_value.specs.Order.{Row, column}
 use Rattle.sqlite_value.specs.declared.value.Value.TheVariants.{Int}
 use Rattle.sqlite_rows.specs.Calls.{IsKnown, KeepsDatabase, KeepsKnown}
 use Rattle.sqlite_rows.specs.Cookies.{IsLast}
 use Rattle.sqlite_rows.specs.Firsts.{FindsFirst}
-use Rattle.sqlite_keeper.specs.Keeping.{OverDatabase, cookies_in, may_tell, rows_in, told_by}
+use Rattle.sqlite_rows.specs.Numbers.{AreNumbered}
+use Rattle.sqlite_keeper.specs.Keeping.{KeepsRows, OverDatabase, cookies_in, may_tell, rows_in, told_by}
 use Rattle.sqlite_keeper.specs.Opening.{GoesOn, HasRowsOf, IsReady, KeepsReady}
 use Rattle.sqlite_keeper.specs.Told.{told_rows}
 use Rattle.sqlite_keeper.specs.declared.failure.Failure.{Failure}
 use Rattle.keeper.specs.Items.{StillTells}
 use Rattle.keeper.specs.declared.keeping.KeepError.{KeepError}
-use Rattle.sqlite_keeper.proofs.KeepLemmas.{known_stays, same_still, when}
+use Rattle.sqlite_keeper.proofs.KeepLemmas.{known_stays, rests_stays, same_still, when}
 
 pub stays_then : (a b c : State) → KeepsDatabase a b → KeepsDatabase b c → KeepsDatabase a c
 stays_then a b c x y = record { now = y.now ∙ x.now; was_open = x.was_open; mode = y.mode }
@@ -83,6 +85,28 @@ pub if_not_ready : {T E : Type 0} (r : Result T E) (a b c : State) (out : Row)
 if_not_ready (Ok x) a b c out finds before after = not_ready a b c out finds before after
 if_not_ready (Err e) a b c out finds before after = tt
 
+pub any_ready : {S T : Type 0} (g : Ghosts S) (was read is : Held S) (row : Option Row)
+    (r : Result T Failure)
+    → (IsKnown (state g was) → IsTrue (state g read).is_open
+    → FindsFirst ((state g was).now.trees 0) row)
+    → (IsKnown (state g was) → IsTrue (state g read).is_open
+    → KeepsDatabase (state g was) (state g read))
+    → (IsTrue (state g read).is_open → IsTrue (state g was).is_open)
+    → OnOk r (IsTrue (state g is).is_open → IsTrue (state g read).is_open)
+    → (row ≡ None → is ≡ read) → OnOk r (KeepsReady (state g was) (state g is))
+any_ready g was read is (Some out) r finds same before after none =
+    if_not_ready r (state g was) (state g read) (state g is) out finds before after
+any_ready g was read is None (Err e) finds same before after none = tt
+any_ready g was read is None (Ok x) finds same before after none =
+    subst (λ k. KeepsReady (state g was) (state g k)) (sym (none refl))
+    (ready_none (state g was) (state g read) same before)
+
+pub read_ready : {T E : Type 0} (r : Result T E) (a b : State)
+    → (IsKnown a → IsTrue b.is_open → KeepsDatabase a b)
+    → (IsTrue b.is_open → IsTrue a.is_open) → OnOk r (KeepsReady a b)
+read_ready (Ok x) a b same before = ready_none a b same before
+read_ready (Err e) a b same before = tt
+
 -- the row of the last cookie is there
 pub begun : (a b : State) → ((last : ℤ) → IsLast (a.now.trees 6) last → IsKnown a
     → IsTrue b.is_open → KeepsDatabase a b) → (IsTrue b.is_open → IsTrue a.is_open)
@@ -93,6 +117,10 @@ begun a b stays opened = record {
 }
 
 -- ---- a connection over its store anew
+
+pub un_not : (b : Bool) → not b ≡ false → b ≡ true
+un_not true e = refl
+un_not false e = absurd (true≢false e)
 
 pub rows_of_itself : (a : State) → HasRowsOf a a
 rows_of_itself a = record { was_open = λ o. o; trees = λ auto o. refl }
@@ -177,3 +205,69 @@ pub goes_on_last : {S : Type 0} (g : Ghosts S) (old : State) (last : ℕ)
 goes_on_last g old last (Err e) q is on = tt
 goes_on_last g old last (Ok k) q is on = λ may.
     (subst (λ x. IfOk x (GoesOn g old last)) (sym is) on may).1
+
+-- ---- a keeper over tables that were looked at
+
+module _ {S : Type 0} (g : Ghosts S) (was is : Held S) (numbered alone one knows : Bool)
+    (last : ℕ)
+    (all : IsTrue knows → IsTrue numbered × (IsTrue alone × IsTrue one))
+    (known : IsTrue alone → IsKnown (state g was))
+    (cookies : IsTrue numbered → IsTrue (state g was).is_open
+    → AreNumbered (cookies_in (state g was)))
+    (found : IsKnown (state g was) → AreNumbered (cookies_in (state g was))
+    → IsTrue (state g is).is_open → IsTrue one → IsLast (cookies_in (state g was)) (pos last))
+    (same : IsKnown (state g was) → IsTrue (state g is).is_open
+    → KeepsDatabase (state g was) (state g is))
+    (opened : IsTrue (state g is).is_open → IsTrue (state g was).is_open) where
+  the_one : IsTrue knows → IsTrue (state g is).is_open
+      → IsLast (cookies_in (state g was)) (pos last)
+  the_one k o =
+      let a = all k in
+      found (known a.1.0) (cookies a.0 (opened o)) o a.1.1
+
+  pub settled : (IsTrue numbered → IsTrue (state g was).is_open → AreNumbered (rows_in (state g was)))
+      → last < 2 ^ 63 → KeepsRows g knows last is
+  settled rows range = record {
+    in_range = range;
+    rests = λ k o.
+        let a = all k in
+        let s = same (known a.1.0) o in (
+          rests_stays (state g was) (state g is) (known a.1.0, rows a.0 (opened o)) s,
+          subst (λ (d : Database). IsLast (d.trees 6) (pos last)) (sym s.now) (the_one k o),
+        );
+  }
+
+  pub settled_goes_on : (before faults : ℕ) → IsLast (cookies_in (state g was)) (pos before)
+      → GoesOn g (state g was) before (record {
+        connection = is;
+        last = last;
+        faults = faults;
+        knows = knows;
+      })
+  settled_goes_on before faults was_last may =
+      let k = when knows (state g is).is_open may in
+      let a = all k.0 in (
+        ap (λ (d : Database). d.trees 3) (same (known a.1.0) k.1).now,
+        one_value (cookies_in (state g was)) last before (the_one k.0 k.1) was_last,
+      )
+
+-- ---- what was opened anew goes on
+
+pub goes_on_then : {S : Type 0} (g : Ghosts S) (first made again : State) (last : ℕ)
+    (r : Result (OverDatabase (Held S)) Failure) → KeepsReady first made → HasRowsOf made again
+    → IsReady first last
+    → IfOk r (λ k. IsTrue (may_tell g k) → IsTrue again.is_open)
+    → (IsLast (cookies_in again) (pos last) → IfOk r (GoesOn g again last))
+    → IfOk r (GoesOn g first last)
+goes_on_then g first made again last (Err e) k h ready opened on = tt
+goes_on_then g first made again last (Ok keeper) k h ready opened on = λ may.
+    let o = opened may in
+    let s = k.same last ready (h.was_open o) in
+    let trees = h.trees s.mode o in
+    let one : IsLast (cookies_in again) (pos last) =
+    subst (λ t. IsLast (t 6) (pos last)) (sym trees)
+    (subst (λ (d : Database). IsLast (d.trees 6) (pos last)) (sym s.now) ready.one) in
+    let here = on one may in (
+      here.0 ∙ ap (λ (t : Trees). t 3) trees ∙ ap (λ (d : Database). d.trees 3) s.now,
+      here.1,
+    )

@@ -1,5 +1,5 @@
 //! The move of the rows of `items`, which the program made before items had an end, to `items2`.
-ghost use Rattle.std.specs.Prelude.{IsTrue, OnOk};
+ghost use Rattle.std.specs.Prelude.{◌≡◌, None, IsTrue, OnOk};
 ghost use Rattle.sqlite.specs.Held.{state};
 ghost use Rattle.sqlite_keeper.specs.Opening.{KeepsReady};
 
@@ -24,26 +24,44 @@ fn move_this<S: Alter>(connection: &mut Connection<S>, row: &Row) -> Result<bool
     Ok(true)
 }
 
+/// Moves this old row, where there is one, and answers whether there was.
+fn move_any<S: Alter>(connection: &mut Connection<S>, row: Option<Row>) -> Result<bool, Failure>
+    ensures opened { OnOk result (IsTrue (state S.Store connection.new).is_open
+        → IsTrue (state S.Store connection.old).is_open) }
+    ensures none { row ≡ None → connection.new ≡ connection.old }
+{
+    match row {
+        Some(row) => move_this(connection, &row),
+        None => Ok(false),
+    }
+}
+
 /// Moves the old row whose key comes first, and answers whether there was one.
 fn move_first<S: Alter>(connection: &mut Connection<S>) -> Result<bool, Failure>
     ensures { OnOk result (KeepsReady (state S.Store connection.old)
         (state S.Store connection.new)) }
 {
     match first_row(connection) {
-        Ok(Some(row)) => move_this(connection, &row),
-        Ok(None) => Ok(false),
+        Ok(row) => move_any(connection, row),
         Err(error) => Err(Failure::Database(error)),
     }
 }
 
-/// Answers whether no old row is left, or a failure where there is one.
+/// A failure where there is a row.
+fn is_none(row: Option<Row>) -> Result<(), Failure> {
+    match row {
+        Some(_) => Err(Failure::TooManyRows),
+        None => Ok(()),
+    }
+}
+
+/// A failure where an old row is left.
 fn none_left<S: Alter>(connection: &mut Connection<S>) -> Result<(), Failure>
     ensures { OnOk result (KeepsReady (state S.Store connection.old)
         (state S.Store connection.new)) }
 {
     match first_row(connection) {
-        Ok(Some(_)) => Err(Failure::TooManyRows),
-        Ok(None) => Ok(()),
+        Ok(row) => is_none(row),
         Err(error) => Err(Failure::Database(error)),
     }
 }

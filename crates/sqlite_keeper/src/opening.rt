@@ -1,6 +1,6 @@
 //! What makes a database ready for a keeper: its tables, the move of old rows, and whether it has
 //! these tables and nothing else.
-ghost use Rattle.std.specs.Prelude.{◌≡◌, pos, IfOk, IsTrue, Ok, OnOk};
+ghost use Rattle.std.specs.Prelude.{◌≡◌, ◌<◌, ◌^◌, pos, IfOk, IsTrue, Ok, OnOk};
 ghost use Rattle.sqlite_trees.specs.View.{IsClean};
 ghost use Rattle.sqlite_trees.specs.declared.store.Shape.TheVariants.{Table};
 ghost use Rattle.sqlite.specs.Held.{state};
@@ -216,7 +216,9 @@ fn has_one_last<S: Alter>(connection: &mut Connection<S>, last: u64) -> Result<b
 }
 
 /// The last cookie that a row shows.
-fn last_in(row: Result<Row, Error>) -> Result<u64, Failure> {
+fn last_in(row: Result<Row, Error>) -> Result<u64, Failure>
+    ensures { IfOk result (λ last. last < 2 ^ 63) }
+{
     match number(&row?, 0)? {
         last if last > MOST_COOKIE => Err(Failure::BadRow),
         last => Ok(last),
@@ -225,6 +227,7 @@ fn last_in(row: Result<Row, Error>) -> Result<u64, Failure> {
 
 /// The last cookie that is stored.
 fn read_last<S: Alter>(connection: &mut Connection<S>) -> Result<u64, Failure>
+    ensures in_range { IfOk result (λ last. last < 2 ^ 63) }
     ensures same { IsKnown (state S.Store connection.old)
         → IsTrue (state S.Store connection.new).is_open
         → KeepsDatabase (state S.Store connection.old) (state S.Store connection.new) }
@@ -235,13 +238,23 @@ fn read_last<S: Alter>(connection: &mut Connection<S>) -> Result<u64, Failure>
     last_in(row)
 }
 
+/// What the table `cookies` holds.
+#[derive(Clone, Copy, Debug)]
+pub(crate) struct Cookies {
+    /// The last cookie.
+    pub(crate) last: u64,
+    /// Whether there is nothing else.
+    pub(crate) is_one: bool,
+}
+
 /// The last cookie that is stored, and whether the table `cookies` has nothing else.
-pub(crate) fn read_cookies<S: Alter>(connection: &mut Connection<S>) -> Result<(u64, bool), Failure>
+pub(crate) fn read_cookies<S: Alter>(connection: &mut Connection<S>) -> Result<Cookies, Failure>
+    ensures in_range { IfOk result (λ r. r.last < 2 ^ 63) }
     ensures one { IsKnown (state S.Store connection.old)
         → AreNumbered (cookies_in (state S.Store connection.old))
         → IsTrue (state S.Store connection.new).is_open
-        → IfOk result (λ r. IsTrue r.1
-        → IsLast (cookies_in (state S.Store connection.old)) (pos r.0)) }
+        → IfOk result (λ r. IsTrue r.is_one
+        → IsLast (cookies_in (state S.Store connection.old)) (pos r.last)) }
     ensures same { IsKnown (state S.Store connection.old)
         → IsTrue (state S.Store connection.new).is_open
         → KeepsDatabase (state S.Store connection.old) (state S.Store connection.new) }
@@ -258,9 +271,16 @@ pub(crate) fn read_cookies<S: Alter>(connection: &mut Connection<S>) -> Result<(
 }
 
 /// The last cookie beside the answer.
-fn both(last: u64, one: Result<bool, Failure>) -> Result<(u64, bool), Failure>
-    ensures last { IfOk result (λ r. r.0 ≡ last) }
-    ensures one { IfOk result (λ r. one ≡ Ok r.1) }
+fn both(last: u64, one: Result<bool, Failure>) -> Result<Cookies, Failure>
+    ensures last { IfOk result (λ r. r.last ≡ last) }
+    ensures one { IfOk result (λ r. one ≡ Ok r.is_one) }
 {
-    Ok((last, one?))
+    Ok(Cookies { last, is_one: one? })
+}
+
+/// Whether all three hold.
+pub(crate) fn all_hold(numbered: bool, alone: bool, one: bool) -> bool
+    ensures { IsTrue result → IsTrue numbered × (IsTrue alone × IsTrue one) }
+{
+    numbered && alone && one
 }

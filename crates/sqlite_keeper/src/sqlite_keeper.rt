@@ -22,7 +22,7 @@ use crate::blocks::{last_after, next_block};
 use crate::cookie_block::CookieBlock;
 use crate::failure::Failure;
 use crate::items::{cut_item, due_key, get_item, put_item};
-use crate::opening::{prepare, read_cookies, reopen, stands_alone};
+use crate::opening::{all_hold, prepare, read_cookies, reopen, stands_alone};
 use asp_base::Bytes;
 use keeper::{KeepError, Keeper};
 use session_machine::Item;
@@ -93,11 +93,11 @@ fn settle<S: Alter + Drop>(
     let alone = stands_alone(&connection);
     let cookies = read_cookies(&mut connection);
     match cookies {
-        Ok((last, one)) => Ok(SqliteKeeper {
+        Ok(found) => Ok(SqliteKeeper {
             connection,
-            last,
+            last: found.last,
             faults: 0,
-            knows: numbered && alone && one,
+            knows: all_hold(numbered, alone, found.is_one),
         }),
         Err(failure) => Err(failure),
     }
