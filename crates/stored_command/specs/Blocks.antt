@@ -1,5 +1,5 @@
 -- Blocks of cookies: what a keeper sets aside for a run.
-use Rattle.std.specs.Prelude.{◌≡◌, ◌⊎◌, ℕ, ◌+◌, ◌-◌, ◌≤◌, ◌<◌, ◌^◌, min, List, Option, Some, None, Result, Ok, Err, IfSome, ⊤}
+use Rattle.std.specs.Prelude.{◌≡◌, ◌⊎◌, ℕ, ◌+◌, ◌-◌, ◌≤◌, ◌^◌, min, List, Option, Some, None, Result, Ok, Err, ⊤}
 use Rattle.asp_messages.specs.Fields.{most_cookie}
 use Rattle.cookie_source.specs.Counting.{Counter}
 use Rattle.session_machine.specs.declared.item.Item.{Item}
