@@ -51,13 +51,15 @@ module _ {K : Type 0} (G : Ghosts K) where
   -- ---- a script as a consumer
 
   abbrev pub ScriptWent : Driver K → Driver K → List ℕ → List ℕ → Type 0
-  ScriptWent start now bytes given = HasRun (opening_of G start.script) now.script bytes now.held given × KeepsFloor start now
+  ScriptWent start now bytes given =
+      HasRun (opening_of G start.script) now.script bytes now.held given × KeepsFloor start now
 
   -- the line that is held first is none, or too long
   abbrev pub ScriptBreaks : Bool → ScriptVerdict → Driver K → Driver K → List ℕ → List ℕ
       → Type 0
   ScriptBreaks more Whole start now bytes whole = ⊥
-  ScriptBreaks more Broken start now bytes whole = (run : HasRun (opening_of G start.script) now.script bytes now.held whole)
+  ScriptBreaks more Broken start now bytes whole =
+      (run : HasRun (opening_of G start.script) now.script bytes now.held whole)
       × (BeginsNoScript run.world now.held
       ⊎ (HasNo 10 now.held × (most_script_line < length now.held) × IsTrue more))
 
@@ -66,12 +68,14 @@ module _ {K : Type 0} (G : Ghosts K) where
   ScriptCloses Whole start now bytes whole last = (last ≡ []) × KeepsFloor start now
       × HasRun (opening_of G start.script) now.script bytes now.held whole × (now.held ≡ [])
   ScriptCloses Broken start now bytes whole last = (last ≡ []) × KeepsFloor start now
-      × HasRun (opening_of G start.script) now.script bytes now.held whole × HasNo 10 now.held × (now.held ≢ [])
+      × HasRun (opening_of G start.script) now.script bytes now.held whole
+      × HasNo 10 now.held × (now.held ≢ [])
 
   -- what was given last: what the last line printed, or nothing where the script is over
   abbrev pub ScriptGave : Going ScriptVerdict → Driver K → Driver K → List ℕ → List ℕ → List ℕ
       → Type 0
-  ScriptGave GoesOn start now bytes whole last = HasRunLast (opening_of G start.script) now.script bytes now.held whole last
+  ScriptGave GoesOn start now bytes whole last =
+      HasRunLast (opening_of G start.script) now.script bytes now.held whole last
       × KeepsFloor start now
   ScriptGave (OverAnyhow more verdict) start now bytes whole last =
       (last ≡ []) × KeepsFloor start now
@@ -83,4 +87,5 @@ module _ {K : Type 0} (G : Ghosts K) where
   abbrev pub ScriptLacks : Driver K → Driver K → List ℕ → List ℕ → Type 0
   ScriptLacks start now bytes given = KeepsFloor start now
       × ((rest : List ℕ) × (HasRun (opening_of G start.script) now.script bytes rest given
-      ⊎ ((printed : List ℕ) × HasRunLast (opening_of G start.script) now.script bytes rest given printed)))
+      ⊎ ((printed : List ℕ)
+      × HasRunLast (opening_of G start.script) now.script bytes rest given printed)))

@@ -1,5 +1,5 @@
 -- Blocks of cookies: what a keeper sets aside for a run.
-use Rattle.std.specs.Prelude.{◌≡◌, ◌⊎◌, ℕ, ◌+◌, ◌-◌, ◌≤◌, ◌<◌, ◌^◌, min, List, Option, Some, None, Result, Ok, Err, IfSome, ⊤}
+use Rattle.std.specs.Prelude.{◌≡◌, ◌⊎◌, ℕ, ◌+◌, ◌-◌, ◌≤◌, ◌^◌, min, List, Option, Some, None, Result, Ok, Err, ⊤}
 use Rattle.asp_messages.specs.Fields.{most_cookie}
 use Rattle.cookie_source.specs.Counting.{Counter}
 use Rattle.session_machine.specs.declared.item.Item.{Item}
@@ -17,12 +17,13 @@ IsHeldIn items cookie = (key : List ℕ) × (item : Item) × (hold : Hold)
     × (items key ≡ Some item) × (item.holder ≡ Some hold) × (hold.cookie ≡ cookie)
 
 -- The block begins no later than it has to: at the lowest that was asked for, or just above the
--- floor, or just above the cookie of a lock. There is none only where one of these two is the last
--- cookie there is.
+-- floor, or just above the cookie of a lock. There is none only where one of these two is no less
+-- than the last cookie there is.
 abbrev pub IsLeast : ℕ → ℕ → (List ℕ → Option Item) → Option Counter → Type 0
 IsLeast at_least floor items (Some block) = (block.next ≡ at_least) ⊎ ((block.next ≡ floor + 1)
     ⊎ ((cookie : ℕ) × (block.next ≡ cookie + 1) × IsHeldIn items cookie))
-IsLeast at_least floor items None = (floor ≡ most_cookie) ⊎ IsHeldIn items most_cookie
+IsLeast at_least floor items None = (most_cookie ≤ floor)
+    ⊎ ((cookie : ℕ) × (most_cookie ≤ cookie) × IsHeldIn items cookie)
 
 -- the same where a keeper tells its items
 abbrev pub TellsLeast : ℕ → ℕ → Option (List ℕ → Option Item) → Option Counter → Type 0

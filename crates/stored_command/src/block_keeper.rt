@@ -14,7 +14,7 @@ pub trait BlockKeeper: Keeper {
     /// Sets the next cookies aside, 2^32 of them or fewer before the last there is, and answers
     /// them: none is below `at_least`, at most the floor, or at most the cookie of an item's lock.
     /// `None` where no such cookie is left. After `None` and after an error nothing has changed.
-    fn block(&mut self, at_least: u64) -> Result<Option<PlainCookies>, KeepError>
+    fn set_aside(&mut self, at_least: u64) -> Result<Option<PlainCookies>, KeepError>
         requires some { 0 < at_least }
         requires in_range { at_least < 2 ^ 63 }
         ensures block { IfOk result (λ block. IfSome block (IsBlock at_least)) }
@@ -24,6 +24,7 @@ pub trait BlockKeeper: Keeper {
         ensures least { IfOk result
             (TellsLeast at_least (Self.floor self.old) (Self.told self.new)) }
         ensures floor { KeepsFloor (Self.floor self.old) (Self.floor self.new) result }
+        ensures counted { IfOk result (λ block. Self.count self.new ≡ Self.count self.old) }
         ensures same { StillTells (Self.told self.old) (Self.told self.new) }
         ensures cause { HasKeepCause (Self.count self.old) (Self.count self.new) result };
 }

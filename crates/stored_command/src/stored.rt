@@ -101,12 +101,12 @@ pub fn command_stored<S: Source, T: Sink, K: BlockKeeper>(
     // What the command that the words say does: to the source, the sink and the keeper.
     ensures does { IfSome (stored_of (map string_bytes words.now))
         (DoesStored ⟦<K as Keeper>⟧ (record {
-      source = source.old;
-      source' = source.new;
-      flow = flow (S.told source.old) (S.told source.new) (T.taken sink.old) (T.taken sink.new);
-      keeper = keeper;
-      result = result;
-    })) }
+          source = source.old;
+          source' = source.new;
+          flow = flow (S.told source.old) (S.told source.new) (T.taken sink.old) (T.taken sink.new);
+          keeper = keeper;
+          result = result;
+        })) }
 
     // Where neither source nor sink fails, nor the keeper for the block, it does all of that, if
     // memory is there.
@@ -122,7 +122,7 @@ pub fn command_stored<S: Source, T: Sink, K: BlockKeeper>(
             keeper,
         };
     };
-    match keeper.block(least_of(&command)) {
+    match keeper.set_aside(least_of(&command)) {
         Ok(cookies) => run_stored(alloc, command, source, sink, keeper, cookies),
         Err(KeepError::Fault) => Ran {
             status: NO_BLOCK,

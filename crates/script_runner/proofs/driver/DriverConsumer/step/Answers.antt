@@ -17,17 +17,13 @@ returns-in-Done-clause-did g c = λ is first taken due went.
     c.in-Some.len c.first_line.ensures.same c.as_slice.ensures c.take_line.ensures
     c.in-Some.ensures.line.1)
     c.clear.new.self.items c.line.new.out.items c.clear.ensures.items
-    (c.in-Done.ensures.done refl) in
-    let floor = (
-      c.line.ensures.floor ∙ went.1.0,
-      λ none. c.line.ensures.tells (went.1.1 none),
-    ) in (
+    (c.in-Done.ensures.done refl) in (
       (
         HasRun-last g.K.Keeper (opening_of g.K.Keeper first.script) c.line.new.self taken c.take_line.new.self due
             (c.line.new.out.items ++ []) last,
-        floor,
+        (c.line.ensures.floor ∙ went.1.0, λ none. c.line.ensures.tells (went.1.1 none)),
       ),
-      (last, floor),
+      (last, (c.line.ensures.floor ∙ went.1.0, λ none. c.line.ensures.tells (went.1.1 none))),
     )
 
 pub returns-in-NotALine-clause-over : goal.returns-in-NotALine-clause-over
