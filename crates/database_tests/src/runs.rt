@@ -1,31 +1,43 @@
 //! Runs over a database, from bytes to bytes.
+use crate::keepers::{in_memory, number, run};
 use asp_base::{Bytes, MemorySink, MemorySource};
-use pipe_command::command;
 use sqlite::{Connection, MemStore};
-use sqlite_keeper::{SqliteKeeper, UntoldKeeper};
+use sqlite_keeper::SqliteKeeper;
 use std::alloc::Global;
 use std::test::Fail;
+use stored_command::command_stored;
 
-/// A write and a read, and the replies to them.
-const WRITE_AND_READ: &[u8] =
-    b"PUT /a HTTP/1.1\r\nContent-Length: 1\r\n\r\nxGET /a HTTP/1.1\r\n\r\n";
+/// A write and an acquire, and the replies to them.
+const WRITE_AND_ACQUIRE: &[u8] = b"PUT /a HTTP/1.1\r\nContent-Length: 1\r\n\r\nx\
+    GET /a HTTP/1.1\r\nExclusive: acquire\r\n\r\n";
 
 const DONE_AND_FOUND: &[u8] = b"HTTP/1.1 200 OK\r\nContent-Length: 0\r\n\r\n\
-    HTTP/1.1 200 OK\r\nTimeout: 20\r\nContent-Length: 1\r\n\r\nx";
+    HTTP/1.1 200 OK\r\nTimeout: 20\r\nLockCookie: 1\r\nContent-Length: 1\r\n\r\nx";
 
-/// A read, and the reply to it where the item is there.
-const READ: &[u8] = b"GET /a HTTP/1.1\r\n\r\n";
+/// A write under the cookie of that acquire, another acquire, and the replies to them.
+const WRITE_UNDER_IT_AND_ACQUIRE: &[u8] =
+    b"PUT /a HTTP/1.1\r\nLockCookie: 1\r\nContent-Length: 1\r\n\r\ny\
+    GET /a HTTP/1.1\r\nExclusive: acquire\r\n\r\n";
 
-const FOUND: &[u8] = b"HTTP/1.1 200 OK\r\nTimeout: 20\r\nContent-Length: 1\r\n\r\nx";
+const DONE_AND_FOUND_LATER: &[u8] = b"HTTP/1.1 200 OK\r\nContent-Length: 0\r\n\r\n\
+    HTTP/1.1 200 OK\r\nTimeout: 20\r\nLockCookie: 4294967297\r\nContent-Length: 1\r\n\r\ny";
 
-/// What `pipe 0 1000 1` wrote over the database, and the database after it.
+/// The status and what was written, and the database after it.
+struct Ran {
+    status: u8,
+    sink: MemorySink,
+    database: Connection<MemStore>,
+}
+
+/// Runs these words over the database.
 fn run_over(
     alloc: Global,
     database: Connection<MemStore>,
+    given: &[&str],
     text: &[u8],
-) -> Result<(MemorySink, Connection<MemStore>), Fail> {
+) -> Result<Ran, Fail> {
     let mut words = Vec::new(alloc);
-    for word in ["pipe", "0", "1000", "1"] {
+    for word in given {
         words.push(String::from_str(alloc, word)?)?;
     }
     let text = Bytes::adopt(Vec::from_slice(alloc, text)?);
@@ -33,21 +45,52 @@ fn run_over(
     let Ok(mut sink) = MemorySink::new(alloc, 16_384, 16_384, Vec::new(alloc)) else {
         return Err("no memory".into());
     };
-    let keeper = UntoldKeeper::new(SqliteKeeper::over(alloc, database)?);
-    let ran = command(alloc, &words, &mut source, &mut sink, keeper);
-    if ran.status != 0 {
-        return Err("the run has another status".into());
-    }
-    Ok((sink, ran.keeper.into_keeper().into_connection()))
+    let keeper = SqliteKeeper::over(alloc, database)?;
+    let ran = command_stored(alloc, &words, &mut source, &mut sink, keeper);
+    Ok(Ran {
+        status: ran.status,
+        sink,
+        database: ran.keeper.into_connection(),
+    })
 }
 
 #[test]
-fn items_are_kept_from_run_to_run(rt: HostRuntime) -> Result<(), Fail> {
+fn items_and_cookies_go_on_from_run_to_run(rt: HostRuntime) -> Result<(), Fail> {
     let alloc = rt.alloc();
     let database = Connection::open_in_memory(alloc)?;
-    let (sink, database) = run_over(alloc, database, WRITE_AND_READ)?;
-    assert_eq!(rt; sink.taken(), DONE_AND_FOUND);
-    let (sink, _) = run_over(alloc, database, READ)?;
-    assert_eq!(rt; sink.taken(), FOUND);
+    let words = ["pipe", "0", "1000", "1", "f"];
+    let ran = run_over(alloc, database, &words, WRITE_AND_ACQUIRE)?;
+    assert_eq!(rt; ran.status, 0);
+    assert_eq!(rt; ran.sink.taken(), DONE_AND_FOUND);
+    let words = ["pipe", "5000", "1000", "1", "f"];
+    let ran = run_over(alloc, ran.database, &words, WRITE_UNDER_IT_AND_ACQUIRE)?;
+    assert_eq!(rt; ran.status, 0);
+    assert_eq!(rt; ran.sink.taken(), DONE_AND_FOUND_LATER);
+    Ok(())
+}
+
+#[test]
+fn run_without_a_block_reads_nothing(rt: HostRuntime) -> Result<(), Fail> {
+    let alloc = rt.alloc();
+    let mut database = in_memory(alloc)?.into_connection();
+    let text = "INSERT INTO items2 VALUES (x'2f61', x'78', 1, 0, 'none', 0, 0, 60000, 60000)";
+    run(&mut database, text)?;
+    let words = ["pipe", "0", "1000", "1", "f"];
+    let mut ran = run_over(alloc, database, &words, WRITE_AND_ACQUIRE)?;
+    assert_eq!(rt; ran.status, 16);
+    assert_eq!(rt; ran.sink.taken(), b"");
+    assert_eq!(rt; number(&mut ran.database, "SELECT last FROM cookies")?, 0);
+    assert_eq!(rt; number(&mut ran.database, "SELECT count(*) FROM items2")?, 1);
+    Ok(())
+}
+
+#[test]
+fn other_words_take_no_block(rt: HostRuntime) -> Result<(), Fail> {
+    let alloc = rt.alloc();
+    let database = Connection::open_in_memory(alloc)?;
+    let words = ["pipe", "0", "1000", "1"];
+    let mut ran = run_over(alloc, database, &words, WRITE_AND_ACQUIRE)?;
+    assert_eq!(rt; ran.status, 2);
+    assert_eq!(rt; number(&mut ran.database, "SELECT last FROM cookies")?, 0);
     Ok(())
 }

@@ -1,3 +1,4 @@
+pub mod AsideLemmas
 pub mod BlockLemmas
 pub mod CallLemmas
 pub mod DueLemmas

@@ -1,6 +1,6 @@
 -- Calls that leave tables as they were which are ready, one behind the other.
 use Rattle.std.proofs.Common.{◌≡◌, inl, inr, ℕ, ℤ, ◌<◌, ◌^◌, pos, List, Bool, true, false, cond, Some, None, Option, Ok, Err, Result, OnOk, refl, sym, ap, subst, ◌∙◌, true≢false}
-use Rattle.std.specs.Prelude.{IfOk, IsTrue, not}
+use Rattle.std.specs.Prelude.{IfOk, IsTrue}
 use Rattle.std.proofs.lemmas.Bool.{cases_Bool}
 use Rattle.sqlite.specs.Effect.{Database}
 use Rattle.sqlite.specs.Held.{Held, state}
@@ -117,10 +117,6 @@ begun a b stays opened = record {
 }
 
 -- ---- a connection over its store anew
-
-pub un_not : (b : Bool) → not b ≡ false → b ≡ true
-un_not true e = refl
-un_not false e = absurd (true≢false e)
 
 pub rows_of_itself : (a : State) → HasRowsOf a a
 rows_of_itself a = record { was_open = λ o. o; trees = λ auto o. refl }

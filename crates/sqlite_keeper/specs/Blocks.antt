@@ -1,5 +1,6 @@
 -- Blocks of cookies: where the next one begins, and where it ends.
 use Rattle.std.specs.Prelude.{◌≡◌, ◌⊎◌, ℕ, ◌+◌, ◌-◌, ◌^◌, ◌<◌, ◌≤◌, List, Option, Some, None, Result, Ok, Err, max, min, ⊤}
+use Rattle.cookie_source.specs.Counting.{Counter}
 use Rattle.session_machine.specs.declared.item.Item.{Item}
 use Rattle.sqlite_keeper.specs.declared.cookie_block.CookieBlock.{CookieBlock}
 use Rattle.sqlite_keeper.specs.Rows.{IsNumberAt, cookie_of}
@@ -65,3 +66,18 @@ told_last last (Err failure) = last
 abbrev pub stored_answer : {T E : Type 0} → Result T E → CookieBlock → Result (Option CookieBlock) E
 stored_answer (Ok done) block = Ok (Some block)
 stored_answer (Err failure) block = Err failure
+
+-- the cookies of a block can be drawn, from the first to the last
+abbrev pub CanBeDrawn : CookieBlock → Type 0
+CanBeDrawn block =
+    (0 < block.first) × ((block.first ≤ block.last) × (block.last < 2 ^ 63))
+
+-- a block as a counter that stands at its first cookie
+abbrev pub counter_of : CookieBlock → Counter
+counter_of block = record { next = block.first; last = block.last }
+
+-- the answer, with the cookies of its block
+abbrev pub counter_answer : {E : Type 0} → Result (Option CookieBlock) E → Result (Option Counter) E
+counter_answer (Ok (Some block)) = Ok (Some (counter_of block))
+counter_answer (Ok None) = Ok None
+counter_answer (Err error) = Err error

@@ -8,9 +8,8 @@ mod items;
 mod moving;
 mod opening;
 mod rows;
+mod setting_aside;
 mod sqlite_keeper;
-mod untold_keeper;
 
 pub use cookie_block::CookieBlock;
 pub use sqlite_keeper::SqliteKeeper;
-pub use untold_keeper::UntoldKeeper;

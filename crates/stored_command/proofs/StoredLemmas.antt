@@ -9,7 +9,7 @@ use Rattle.session_machine.specs.History.{nothing}
 use Rattle.pipe_command.specs.declared.command_words.Command.{Command}
 use Rattle.pipe_command.specs.declared.command_words.Command.TheVariants as commands
 use Rattle.pipe_command.specs.Commands.{DoesFrom, Seen}
-use Rattle.stored_command.specs.Blocks.{IsLeast, TellsLeast}
+use Rattle.block_keeper.specs.Blocks.{IsLeast, TellsLeast}
 
 -- what a command does does not depend on the keeper that was handed in
 pub does_from : {S K : Type 0} (G : Ghosts K) (seen : Seen S K) (keeper : K) (opening : Opening)

@@ -8,7 +8,7 @@ use Rattle.shard_core.specs.ShardStands.{CountsFault, TellsSame}
 use Rattle.pipe_command.specs.declared.command_words.Command.{Command}
 use Rattle.pipe_command.specs.declared.command_words.Command.TheVariants as commands
 use Rattle.pipe_command.specs.Commands.{DoesFrom, Seen}
-use Rattle.stored_command.specs.Blocks.{IsBlock, IsLeast, floor_after}
+use Rattle.block_keeper.specs.Blocks.{IsBlock, IsLeast, floor_after}
 
 -- the lowest cookie that a command asks for: FIRST, and 1 for `drive`
 abbrev pub least_of : Command → ℕ

@@ -2,8 +2,6 @@
 //! and their cookies are those of a block that it sets aside.
 #![tactic(auto)]
 
-mod block_keeper;
 mod stored;
 
-pub use block_keeper::BlockKeeper;
 pub use stored::{NO_BLOCK, command_stored};

@@ -9,8 +9,8 @@ ghost use Rattle.pipe_command.specs.PipeRun.{PipeFits};
 ghost use Rattle.shard_core.specs.ShardStands.{CountsFault};
 ghost use Rattle.stored_command.specs.StoredRun.{DoesStored, least_of};
 
-use crate::BlockKeeper;
 use asp_base::{MOST_INPUT, Sink, Source, status};
+use block_keeper::BlockKeeper;
 use cookie_source::PlainCookies;
 use keeper::{KeepError, Keeper, Ran};
 use pipe_command::{Command, run_pipe_over, stored_of};

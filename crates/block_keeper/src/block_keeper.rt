@@ -3,7 +3,7 @@ ghost use Rattle.std.specs.Prelude.{◌≡◌, ◌≤◌, ◌<◌, ◌^◌, IfOk
 ghost use Rattle.keeper.specs.Items.{StillTells};
 ghost use Rattle.keeper.specs.KeeperCauses.{HasKeepCause};
 ghost use Rattle.plain_desk.specs.Openings.{HasFreshCookies, cookies_of, opening_over};
-ghost use Rattle.stored_command.specs.Blocks.{IsBlock, KeepsFloor, TellsLeast};
+ghost use Rattle.block_keeper.specs.Blocks.{IsBlock, KeepsFloor, TellsLeast};
 
 use cookie_source::PlainCookies;
 use keeper::{KeepError, Keeper};
