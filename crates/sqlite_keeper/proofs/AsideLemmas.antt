@@ -9,7 +9,7 @@ use Rattle.keeper.specs.declared.keeping.KeepError.{KeepError}
 use Rattle.keeper.specs.declared.keeping.KeepError.TheVariants.{Fault}
 use Rattle.plain_desk.specs.Openings.{HasFreshCookies, Opening, cookies_of, told_items}
 use Rattle.session_machine.specs.History.{IsHeldBelow}
-use Rattle.session_machine.specs.declared.hold.Hold.{Hold}
+use Rattle.session_machine.specs.declared.item.Hold.{Hold}
 use Rattle.session_machine.specs.declared.item.Item.{Item}
 use Rattle.sqlite_keeper.specs.Blocks.{BeginsAbove, CanBeDrawn, HoldsBelow, IsBlockFrom, IsCookie, IsGreatestHeld, TellsBlock, counter_answer, counter_of, most_of_cookies, told_last}
 use Rattle.sqlite_keeper.specs.Keeping.{faults_after, told_faults}
