@@ -22,7 +22,7 @@ TOP = os.path.dirname(os.path.dirname(os.path.abspath(__file__)))
 KILLS = next((int(word) for word in sys.argv[1:] if word.isdigit()), 200)
 PROGRAM = os.path.abspath(next((word for word in sys.argv[1:] if not word.isdigit()), os.path.join(TOP, "asp_state")))
 WORDS = ["pipe", "0", "0", "1"]
-KEYS, ROUNDS = 40, 60
+KEYS, ROUNDS, WRITES = 40, 500, 5
 
 
 def put(key, body):
@@ -75,7 +75,7 @@ class Killed:
         freed = [(remove(key, cookie), ("freed", key, None)) for key, cookie in sorted(self.held.items())]
         yield from first + freed
         for _ in range(ROUNDS):
-            for _ in range(KEYS):
+            for _ in range(WRITES):
                 self.made += 1
                 key = b"w%d" % random.randrange(KEYS)
                 body = b"%d." % self.made * random.choice([1, 10, 100, 1000])
@@ -91,19 +91,16 @@ class Killed:
         status, cookie, content = reply
         if what == "is":
             self.counts[0] += 1
-            may = self.sent[key]
-            if status == 200 and content in may:
-                self.sent[key] = [content]
-                return True
-            if status == 404 and None in may:
-                self.sent[key] = [None]
-                return True
-            return False
+            there = content if status == 200 else None
+            if status not in (200, 404) or there not in self.sent[key]:
+                return False
+            self.sent[key] = self.sent[key][self.sent[key].index(there):]
+            return True
         if what == "freed":
             self.counts[1] += 1
             return status == 200
         if what == "put":
-            self.sent[key] = [sent for sent in self.sent[key][self.sent[key].index(body):]]
+            self.sent[key] = self.sent[key][self.sent[key].index(body):]
             return status == 200
         if what == "made":
             return status == 200
@@ -123,8 +120,6 @@ class Killed:
             if what == "put":
                 self.sent.setdefault(key, [None])
         child = subprocess.Popen([PROGRAM, *WORDS, self.path], stdin=subprocess.PIPE, stdout=subprocess.PIPE)
-        sent = [0]
-
         def feed():
             try:
                 for request, (what, key, body) in script:
@@ -132,17 +127,28 @@ class Killed:
                         self.sent[key].append(body)
                     child.stdin.write(request)
                     child.stdin.flush()
-                    sent[0] += 1
                 child.stdin.close()
             except OSError:
                 pass
 
+        got = [b""]
+        begun = threading.Event()
+
+        def read():
+            while True:
+                piece = os.read(child.stdout.fileno(), 65_536)
+                if not piece:
+                    return begun.set()
+                got[0] += piece
+                begun.set()
+
         feeder = threading.Thread(target=feed)
-        got = []
-        reader = threading.Thread(target=lambda: got.append(child.stdout.read()))
+        reader = threading.Thread(target=read)
         reader.start()
         feeder.start()
         if seconds is not None:
+            # Some are killed while they open the file, the others behind their first reply.
+            begun.wait(None if random.random() < 0.8 else random.uniform(0, 0.1))
             time.sleep(seconds)
             child.send_signal(signal.SIGKILL)
         feeder.join()
@@ -173,9 +179,8 @@ def main():
     with tempfile.TemporaryDirectory() as folder:
         path = os.path.join(folder, "killed.db")
         all_runs = Killed(path)
-        opened = 0.05
         for kill in range(KILLS + 1):
-            seconds = None if kill == KILLS else random.uniform(0, 0.4) + opened * (kill % 3)
+            seconds = None if kill == KILLS else random.uniform(0, 0.3)
             wrong = all_runs.run(seconds)
             if wrong:
                 sys.exit("run %d: %s" % (kill, wrong))
