@@ -1,8 +1,8 @@
 -- A block of the keeper as cookies that were set aside.
-use Rattle.std.proofs.Common.{◌≡◌, ◌⊎◌, inl, inr, ℕ, zero, suc, ◌+◌, ◌-◌, ◌^◌, ◌<◌, ◌≤◌, List, Some, None, Option, Ok, Err, Result, max, min, refl, sym, ap, subst, ◌∙◌, arith}
+use Rattle.std.proofs.Common.{◌≡◌, ◌⊎◌, inl, inr, ℕ, zero, suc, ◌+◌, ◌<◌, ◌≤◌, List, Some, None, Option, Ok, Err, Result, max, refl, sym, ap, arith}
 use Rattle.std.specs.Prelude.{IfOk, IfSome, IsErrOf}
 use Rattle.asp_messages.specs.Fields.{most_cookie}
-use Rattle.block_keeper.specs.Blocks.{IsBlock, IsHeldIn, IsLeast, KeepsFloor, TellsLeast, floor_after}
+use Rattle.block_keeper.specs.Blocks.{IsBlock, IsHeldIn, IsLeast, KeepsFloor, TellsLeast}
 use Rattle.cookie_source.specs.Counting.{Counter}
 use Rattle.keeper.specs.KeeperCauses.{HasKeepCause}
 use Rattle.keeper.specs.declared.keeping.KeepError.{KeepError}
@@ -11,7 +11,7 @@ use Rattle.plain_desk.specs.Openings.{HasFreshCookies, Opening, cookies_of, told
 use Rattle.session_machine.specs.History.{IsHeldBelow}
 use Rattle.session_machine.specs.declared.item.Hold.{Hold}
 use Rattle.session_machine.specs.declared.item.Item.{Item}
-use Rattle.sqlite_keeper.specs.Blocks.{BeginsAbove, CanBeDrawn, HoldsBelow, IsBlockFrom, IsCookie, IsGreatestHeld, TellsBlock, counter_answer, counter_of, most_of_cookies, told_last}
+use Rattle.sqlite_keeper.specs.Blocks.{CanBeDrawn, HoldsBelow, IsBlockFrom, IsCookie, IsGreatestHeld, TellsBlock, counter_answer, counter_of, most_of_cookies, told_last}
 use Rattle.sqlite_keeper.specs.Keeping.{faults_after, told_faults}
 use Rattle.sqlite_keeper.specs.Rows.{cookie_of}
 use Rattle.sqlite_keeper.specs.declared.cookie_block.CookieBlock.{CookieBlock}

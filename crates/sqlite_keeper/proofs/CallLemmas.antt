@@ -1,6 +1,6 @@
 -- Through the answers of the calls.
-use Rattle.std.proofs.Common.{◌≡◌, ◌⊎◌, inl, inr, ℕ, pos, ◌-◌, ◌^◌, List, Bool, true, false, Some, None, Option, Ok, Err, Result, OnOk, refl, sym, ap, subst, ◌∙◌, true≢false}
-use Rattle.std.specs.Prelude.{min, IfOk, IsOk, IsErr, IsTrue, OnErr}
+use Rattle.std.proofs.Common.{◌≡◌, ℕ, pos, ◌-◌, ◌^◌, List, Some, None, Option, Ok, Err, Result, OnOk, sym, ap, subst, ◌∙◌, true≢false}
+use Rattle.std.specs.Prelude.{min, IfOk, IsOk, IsErr, OnErr}
 use Rattle.sqlite_value.specs.Order.{Row}
 use Rattle.sqlite.specs.declared.error.Error.{Error}
 use Rattle.sqlite.specs.Effect.{Database}
@@ -18,7 +18,7 @@ use Rattle.sqlite_rows.specs.Gets.{Gets}
 use Rattle.sqlite_rows.specs.Uniques.{HaveOwnKeys}
 use Rattle.asp_messages.specs.Ranges.{KeyFits}
 use Rattle.keeper.specs.Due.{TellsDue}
-use Rattle.keeper.specs.Items.{StillTells, TellsItem, TellsSets}
+use Rattle.keeper.specs.Items.{TellsItem, TellsSets}
 use Rattle.sqlite_keeper.specs.declared.failure.Failure.{Failure}
 use Rattle.session_machine.specs.declared.item.Item.{Item}
 use Rattle.session_machine.specs.Liveness.{ItemFits}

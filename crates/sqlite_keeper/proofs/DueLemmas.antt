@@ -1,5 +1,5 @@
 -- The row that expired first is that of the item that did.
-use Rattle.std.proofs.Common.{◌≡◌, ◌≢◌, ◌⊎◌, inl, inr, ℕ, ℤ, pos, ◌-◌, ◌^◌, ◌<◌, ◌≤◌, ◌<ℤ◌, ◌+◌, ◌*◌, List, [], ◌∷◌, Bool, true, false, cond, Some, None, Option, refl, sym, ap, subst, ◌∙◌, arith, true≢false}
+use Rattle.std.proofs.Common.{◌≡◌, inl, inr, ℕ, ℤ, pos, ◌-◌, ◌^◌, ◌<◌, ◌≤◌, ◌<ℤ◌, List, Bool, true, false, cond, Some, None, Option, refl, sym, ap, subst, ◌∙◌, arith, true≢false}
 use lib.Dec.{ltb→lt}
 use Rattle.std.specs.Prelude.{min}
 use Rattle.std.specs.List.{list_all}
@@ -7,14 +7,12 @@ use Rattle.std.specs.Ordering.{MatchOrdering, is_le, is_lt, int_cmp, nat_cmp, or
 use Rattle.std.specs.declared.cmp.Ordering.{Ordering}
 use Rattle.std.specs.declared.cmp.Ordering.TheVariants.{Less, Equal, Greater}
 use Rattle.std.specs.Cmp.Lexicographic.{slice_cmp}
-use Rattle.std.proofs.lemmas.Bool.{cases_Bool}
 use Rattle.std.proofs.lemmas.Cmp.{int_ranked, nat_list_cmp_total}
 use Rattle.sqlite_value.specs.declared.value.Value.{Value}
 use Rattle.sqlite_value.specs.declared.value.Value.TheVariants.{Int, Blob}
-use Rattle.sqlite_value.specs.Order.{Row, column, value_cmp}
+use Rattle.sqlite_value.specs.Order.{Row, column}
 use Rattle.sqlite_value.proofs.OrderLemmas.{value_cmp-Int, value_cmp-Blob}
 use Rattle.sqlite_sql.specs.Ops.{binary, unary, is_true}
-use Rattle.sqlite_rules.specs.Lists.{Has}
 use Rattle.sqlite_rows.specs.Dues.{FindsDue, LacksDue, due_row_cmp, is_due}
 use Rattle.sqlite_rows.specs.Gets.{key_is}
 use Rattle.sqlite_rows.specs.Uniques.{HaveOwnKeys}

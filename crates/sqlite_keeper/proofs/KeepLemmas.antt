@@ -1,10 +1,9 @@
 -- What the keeper tells before and after a call.
-use Rattle.std.proofs.Common.{◌≡◌, inl, inr, ℕ, ◌<◌, ◌^◌, pos, List, Bool, true, false, cond, Some, None, Option, Ok, Err, Result, OnOk, refl, sym, ap, subst, ◌∙◌, true≢false}
-use Rattle.std.specs.Prelude.{IfOk, IsTrue, OnErr, ◌&&◌, ⊤}
+use Rattle.std.proofs.Common.{◌≡◌, ℕ, ◌<◌, ◌^◌, pos, List, Bool, true, false, cond, Some, None, Option, Ok, Err, Result, OnOk, refl, sym, ap, subst, ◌∙◌, true≢false}
+use Rattle.std.specs.Prelude.{IfOk, IsTrue, OnErr, ◌&&◌}
 use Rattle.sqlite.specs.Held.{Held, state}
 use Rattle.sqlite.specs.State.{State}
 use Rattle.sqlite_trees.specs.declared.store.Store.{Ghosts}
-use Rattle.sqlite_value.specs.Order.{Row}
 use Rattle.sqlite_rows.specs.Calls.{IsKnown, KeepsDatabase, WritesItems}
 use Rattle.sqlite_rows.specs.Cookies.{IsLast}
 use Rattle.sqlite_rows.specs.Numbers.{AreNumbered}

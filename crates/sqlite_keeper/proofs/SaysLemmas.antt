@@ -1,7 +1,6 @@
 -- A row says a key and an item exactly where the test says so.
-use Rattle.std.proofs.Common.{◌≡◌, ◌⊎◌, inl, inr, ℕ, ℤ, pos, negsuc, ◌<◌, ◌≤◌, ◌^◌, List, [], ◌∷◌, length, Bool, true, false, Some, None, Option, refl, sym, ap, subst, ◌∙◌, arith, true≢false}
+use Rattle.std.proofs.Common.{◌≡◌, ℕ, ℤ, pos, negsuc, ◌<◌, ◌≤◌, ◌^◌, List, length, Bool, true, false, Some, None, Option, refl, sym, ap, subst, ◌∙◌, arith, true≢false}
 use Rattle.std.specs.Prelude.{◌==◌, ◌&&◌, nat_lt, nat_le, IfSome}
-use Rattle.std.specs.Str.{bytes_eq}
 use Rattle.std.proofs.lemmas.Bool.{and_parts}
 use Rattle.std.proofs.lemmas.Bool.Decides.{nat_tests}
 use Rattle.std.proofs.lemmas.Slice.Eq.{bytes_eq-Decides}
@@ -15,7 +14,7 @@ use Rattle.asp_messages.specs.Ranges.{KeyFits}
 use Rattle.session_machine.specs.declared.item.Hold.{Hold}
 use Rattle.session_machine.specs.declared.item.Item.{Item}
 use Rattle.session_machine.specs.Liveness.{ItemFits}
-use Rattle.sqlite_keeper.specs.Told.{IsRowOf, all_fit, are_same_fields, fields_in, fields_of, is_blob, is_formed, is_same_int, item_with, lock_fits, lock_in, nat_in, says_item}
+use Rattle.sqlite_keeper.specs.Told.{IsRowOf, all_fit, are_same_fields, fields_in, fields_of, is_blob, is_formed, is_same_int, item_with, lock_fits, lock_in, says_item}
 use Rattle.sqlite_keeper.specs.Rows.{cookie_of, flag_number, since_of}
 
 -- ---- tests

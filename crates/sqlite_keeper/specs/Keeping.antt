@@ -1,6 +1,6 @@
 -- A keeper over a connection, as contracts see it, what it rests on, what it tells, and how it
 -- counts.
-use Rattle.std.specs.Prelude.{◌≡◌, ℕ, ◌<◌, ◌-◌, ◌^◌, ◌&&◌, Bool, List, pos, min, refl, Option, None, if◌then◌else◌, Result, Ok, Err, IsTrue}
+use Rattle.std.specs.Prelude.{ℕ, ◌<◌, ◌-◌, ◌^◌, ◌&&◌, Bool, List, pos, min, refl, Option, None, if◌then◌else◌, Result, Ok, Err, IsTrue}
 use Rattle.std.specs.Coded.{Coded, code_by, coded×, coded_ℕ, coded_bool}
 use Rattle.asp_base.specs.InMemory.{counted_once_more}
 use Rattle.keeper.specs.declared.keeping.KeepError.{KeepError}

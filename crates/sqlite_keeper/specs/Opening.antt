@@ -1,5 +1,5 @@
 -- What the making of a keeper leaves of tables that are ready.
-use Rattle.std.specs.Prelude.{◌≡◌, ℕ, pos, false, IsTrue, Option}
+use Rattle.std.specs.Prelude.{◌≡◌, ℕ, pos, false, IsTrue}
 use Rattle.sqlite.specs.Held.{Held, state}
 use Rattle.sqlite.specs.State.{State}
 use Rattle.sqlite_rules.specs.Lists.{Has}

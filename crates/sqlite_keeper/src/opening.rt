@@ -18,8 +18,10 @@ use crate::moving::move_rows;
 use crate::rows::number;
 use asp_messages::MOST_COOKIE;
 use sqlite::{Alter, Connection, Error, ErrorCode, Row};
-use sqlite_rows::{all_cookies, begin_cookies, index_items, index_items2, is_known, last_row};
-use sqlite_rows::{make_cookies, make_items, make_items2, understand};
+use sqlite_rows::{
+    all_cookies, begin_cookies, index_items, index_items2, is_known, last_row, make_cookies,
+    make_items, make_items2, understand,
+};
 use sqlite_trees::store::{Shape, Store};
 use std::alloc::Global;
 

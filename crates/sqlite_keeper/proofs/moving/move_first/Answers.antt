@@ -1,4 +1,3 @@
-use Rattle.sqlite.specs.Held.{state}
 use Rattle.sqlite_keeper.proofs.ReadyLemmas.{any_ready}
 use Rattle.sqlite_keeper.proofs.moving.move_first.Goals as goal
 

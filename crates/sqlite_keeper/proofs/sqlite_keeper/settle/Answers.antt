@@ -1,4 +1,3 @@
-use Rattle.std.proofs.Common.{pos}
 use Rattle.sqlite.specs.Held.{state}
 use Rattle.sqlite_keeper.proofs.ReadyLemmas.{settled, settled_goes_on}
 use Rattle.sqlite_keeper.proofs.sqlite_keeper.settle.Goals as goal

@@ -1,9 +1,5 @@
-use Rattle.std.proofs.Common.{ap, subst, sym, ◌∙◌}
-use Rattle.std.specs.Prelude.{IfOk}
-use Rattle.sqlite_keeper.specs.Blocks.{TellsBlock, told_last}
 use Rattle.sqlite_keeper.specs.Failures.{keeper_answer}
-use Rattle.sqlite_keeper.specs.Keeping.{told_by}
-use Rattle.sqlite_keeper.proofs.BlockLemmas.{below_if, last_in_range, last_of_answer}
+use Rattle.sqlite_keeper.proofs.BlockLemmas.{last_in_range}
 use Rattle.sqlite_keeper.proofs.KeepLemmas.{answer_if_ok, block_by, keeps_block, still_rows}
 use Rattle.sqlite_keeper.proofs.sqlite_keeper.SqliteKeeper.block.Goals as goal
 

@@ -1,4 +1,3 @@
-use Rattle.std.proofs.Common.{Some, None}
 use Rattle.sqlite_keeper.specs.Failures.{keeper_answer}
 use Rattle.sqlite_keeper.proofs.KeepLemmas.{answer_if_ok, item_by, keeps_all, still}
 use Rattle.sqlite_keeper.proofs.sqlite_keeper.SqliteKeeperKeeper.get.Goals as goal

@@ -1,4 +1,4 @@
-use Rattle.std.proofs.Common.{Some, None}
+use Rattle.std.proofs.Common.{Some}
 use Rattle.sqlite_keeper.specs.Failures.{keeper_answer}
 use Rattle.sqlite_keeper.proofs.KeepLemmas.{answer_on_err, answer_on_ok, keeps, sets, still_err}
 use Rattle.sqlite_keeper.proofs.sqlite_keeper.SqliteKeeperKeeper.put.Goals as goal
