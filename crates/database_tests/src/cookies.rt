@@ -12,7 +12,8 @@ const GREATEST: u64 = 9_223_372_036_854_775_807;
 /// A row of `/a`, held under this cookie since moment 0.
 fn held(alloc: Global, cookie: u64) -> Result<String, Fail> {
     Ok(format!(in alloc;
-        "INSERT INTO items2 VALUES (x'2f61', x'78', 1, 0, {cookie}, 0, 0, {GREATEST}, 60000)")?)
+        "INSERT INTO items2 VALUES (x'2f61', x'78', 1, 0, {cookie}, 0, 0, {GREATEST}, 60000)"
+    )?)
 }
 
 /// A keeper over tables in memory, in which this statement was run.
@@ -36,7 +37,10 @@ fn blocks_go_on_where_the_last_one_ended(rt: HostRuntime) -> Result<(), Fail> {
     assert_eq!(rt; keeper.block(1)?, block(4_294_967_297, 8_589_934_592));
     assert_eq!(rt; keeper.block(5)?, block(8_589_934_593, 12_884_901_888));
     // A gap before a block is no harm.
-    assert_eq!(rt; keeper.block(1 << 40)?, block(1 << 40, (1 << 40) + 4_294_967_295));
+    assert_eq!(rt;
+        keeper.block(1 << 40)?,
+        block(1 << 40, (1 << 40) + 4_294_967_295)
+    );
     let mut connection = keeper.into_connection();
     let last = number(&mut connection, "SELECT last FROM cookies WHERE id = 1")?;
     assert_eq!(rt; last, (1 << 40) + 4_294_967_295);
@@ -121,7 +125,10 @@ fn last_cookie_out_of_range_is_refused(rt: HostRuntime) -> Result<(), Fail> {
         let mut connection = in_memory(alloc)?.into_connection();
         run(&mut connection, text)?;
         if text.starts_with("DROP") {
-            run(&mut connection, "CREATE TABLE cookies (id INTEGER, last INTEGER)")?;
+            run(
+                &mut connection,
+                "CREATE TABLE cookies (id INTEGER, last INTEGER)",
+            )?;
         }
         let refused = SqliteKeeper::over(alloc, connection);
         assert!(rt; matches!(refused, Err(KeepError::Fault)), "at {text}");

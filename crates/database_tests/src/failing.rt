@@ -50,10 +50,7 @@ fn item(alloc: Global, content: u8) -> Result<Item, NoMemory>
 
 /// Writes, finds and removes an item, with a block before and one after. True where each answer is
 /// right.
-fn steps(
-    alloc: Global,
-    keeper: &mut SqliteKeeper<FileStore<Failing>>,
-) -> Result<bool, KeepError> {
+fn steps(alloc: Global, keeper: &mut SqliteKeeper<FileStore<Failing>>) -> Result<bool, KeepError> {
     let first = keeper.block(1)?;
     let a = key(alloc, b'a')?;
     keeper.put(&a, item(alloc, b'x')?)?;

@@ -80,7 +80,10 @@ fn run_without_a_block_reads_nothing(rt: HostRuntime) -> Result<(), Fail> {
     assert_eq!(rt; ran.status, 16);
     assert_eq!(rt; ran.sink.taken(), b"");
     assert_eq!(rt; number(&mut ran.database, "SELECT last FROM cookies")?, 0);
-    assert_eq!(rt; number(&mut ran.database, "SELECT count(*) FROM items2")?, 1);
+    assert_eq!(rt;
+        number(&mut ran.database, "SELECT count(*) FROM items2")?,
+        1
+    );
     Ok(())
 }
 
