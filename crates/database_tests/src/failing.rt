@@ -32,7 +32,10 @@ fn opened(alloc: Global, calls: u64) -> Option<Connection<FileStore<Failing>>> {
         log: Fuse::new(memory(alloc), calls),
         db: Fuse::new(memory(alloc), u64::MAX),
     };
-    Connection::open_files(alloc, files, Options::new(1)).ok()
+    match Connection::open_files(alloc, files, Options::new(1)) {
+        Ok(connection) => Some(connection),
+        Err(_) => None,
+    }
 }
 
 fn item(alloc: Global, content: u8) -> Result<Item, NoMemory>
