@@ -8,6 +8,8 @@ mod drive_scripts;
 #[cfg(test)]
 mod drives;
 #[cfg(test)]
+mod farms;
+#[cfg(test)]
 mod journal_reading;
 #[cfg(test)]
 mod journals;

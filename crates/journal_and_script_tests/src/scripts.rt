@@ -30,7 +30,7 @@ fn prints(alloc: Global, lines: &str, printed: &str) -> bool {
     end == LineEnd::Done && out.as_slice() == printed.as_bytes()
 }
 
-const FORCED: &str = "page c x2f73 exclusive save 20 x31
+pub const FORCED: &str = "page c x2f73 exclusive save 20 x31
 page a x2f73 exclusive save 20 x32
 page b x2f73 exclusive keep
 step 0 c
@@ -51,7 +51,7 @@ step 112000 b
 step 112000 b
 step 112000 b";
 
-const FORCED_PRINTED: &str = "0 c acquire : missing
+pub const FORCED_PRINTED: &str = "0 c acquire : missing
 0 c run none
 0 c write 0 20 0 x31 : done
 0 a acquire : found 2 20 0 x31
@@ -75,7 +75,7 @@ fn a_forced_release_and_a_lost_lock(rt: HostRuntime) {
     assert!(rt; prints(rt.alloc(), FORCED, FORCED_PRINTED));
 }
 
-const GIVEN_UP: &str = "limits 110 500 2
+pub const GIVEN_UP: &str = "limits 110 500 2
 page c x2f73 exclusive save 20 x31
 page a x2f73 exclusive keep
 page r x2f73 readonly keep
@@ -90,7 +90,7 @@ step 1500 r
 step 2000 o
 step 2000 o";
 
-const GIVEN_UP_PRINTED: &str = "0 c acquire : missing
+pub const GIVEN_UP_PRINTED: &str = "0 c acquire : missing
 0 c run none
 0 c write 0 20 0 x31 : done
 0 a acquire : found 2 20 0 x31
