@@ -1,5 +1,5 @@
 #!/usr/bin/env python3
-"""Measures `asp_state trace` on a stream of 200,000 requests, and `asp_state replay` on the journal that it writes.
+"""Measures `asp_state trace` on a stream of 200,000 requests, and `asp_state replay` and `asp_state mirror` on the journal that it writes.
 
 usage: bench/journal.py [PROGRAM]
 
@@ -54,6 +54,10 @@ def main():
             with open(verdict) as file:
                 if file.read() != "legal %d\n" % MESSAGES:
                     sys.exit("the journal is not judged legal")
+            measure([program, "mirror", str(MESSAGES * 1000)], journal, verdict)
+            with open(verdict) as file:
+                if not file.read().endswith("sessions %d\n" % keys):
+                    sys.exit("not all sessions are listed")
 
 
 if __name__ == "__main__":

@@ -1,14 +1,16 @@
 #!/usr/bin/env python3
 """Measures `asp_state serve` over loopback, beside redis-server, memcached, nginx and a bare echo, in one run.
 
-usage: bench/serve.py [--growth] [--sessions] [--expiry] [--calls] [PROGRAM]
+usage: bench/serve.py [--growth] [--sessions] [--expiry] [--calls] [--journals] [PROGRAM [OLDER]]
 
 PROGRAM is the built program; without it ./asp_state builds it, and its own is taken. Without a flag it runs each server with 1, 8
 and 64 connections, by turns, three rounds of a second each, the server on one half of the processors and the load on the other,
 and prints the medians: requests a second, p50 and p99 in microseconds. --growth runs 1, 2, 4 and 8 workers with as many
 connections; --sessions writes sessions with contents of 100 bytes to 64 KiB, and prints the memory of each, and the time of a request
 before and after 1,000,000 of them; --expiry writes 20,000 sessions of one minute, lets them expire, and prints the memory before and
-after short visits, and after as many more sessions; --calls counts the system calls of 20,000 requests under strace. It needs cc, and
+after short visits, and after as many more sessions; --calls counts the system calls of 20,000 requests under strace; --journals runs
+PROGRAM without and with FOLDER, and OLDER if it is given, by turns with 8 and 64 connections, and prints the medians, and how large the
+journals grow a request (in a folder of TMPDIR, some 500 MB at a time). It needs cc, and
 redis-server, memcached, nginx and strace where they are asked for. Outside the gate; nothing of it is promised.
 """
 import os
@@ -80,9 +82,10 @@ class Bench:
         await_port(port, process)
         return process
 
-    def serve(self, workers, on=None):
+    def serve(self, workers, on=None, program=None, journals=None):
         port = free_port()
-        return port, self.start([self.program, "serve", str(port), str(workers), str(LIMIT)], port, on)
+        words = [program or self.program, "serve", str(port), str(workers), str(LIMIT), *([journals] if journals else [])]
+        return port, self.start(words, port, on)
 
     def others(self):
         """The servers beside ours that are there: name, port, process and the kinds of load."""
@@ -260,6 +263,28 @@ def calls(bench):
                 print(f"  {fields[-1]}: {int(fields[3]) / 20_000:.3f} a request")
 
 
+def journals(bench, older):
+    kinds = ["asp-get", "asp-put", "asp-lock"]
+    names = [*(["older"] if older else []), "without", "with"]
+    figures = {}
+    for _ in range(ROUNDS):
+        for connections in (8, 64):
+            for kind in kinds:
+                for name in names:
+                    with tempfile.TemporaryDirectory() as folder:
+                        program = older if name == "older" else None
+                        port, server = bench.serve(64, program=program, journals=folder if name == "with" else None)
+                        seen = bench.measure(port, kind, connections)
+                        server.terminate()
+                        server.wait()
+                        size = sum(os.path.getsize(os.path.join(folder, file)) for file in os.listdir(folder))
+                    figures.setdefault((kind, connections, name), []).append((*seen, size / (seen[0] * SECONDS)))
+    print(f"{'kind':<10} connections  {'journals':<8}  requests/s  p50 us  p99 us  bytes a request")
+    for (kind, connections, name), seen in figures.items():
+        rate, half, most, size = (statistics.median(column) for column in zip(*seen))
+        print(f"{kind:<10} {connections:>11}  {name:<8}  {rate:>10,.0f}  {half:>6.1f}  {most:>6.1f}  {size:>15,.0f}")
+
+
 def main():
     words = [word for word in sys.argv[1:] if not word.startswith("--")]
     flags = {word for word in sys.argv[1:] if word.startswith("--")}
@@ -280,6 +305,8 @@ def main():
             expiry(bench)
         if "--calls" in flags:
             calls(bench)
+        if "--journals" in flags:
+            journals(bench, os.path.abspath(words[1]) if len(words) > 1 else None)
 
 
 if __name__ == "__main__":

@@ -30,13 +30,25 @@ def get(key):
     return b"GET /%s HTTP/1.1\r\n\r\n" % key
 
 
+def acquire(key):
+    return b"GET /%s HTTP/1.1\r\nExclusive: acquire\r\n\r\n" % key
+
+
+def put_under(key, cookie, body):
+    return b"PUT /%s HTTP/1.1\r\nLockCookie: %d\r\nContent-Length: %d\r\n\r\n%s" % (key, cookie, len(body), body)
+
+
 def found(body):
     return b"HTTP/1.1 200 OK\r\nTimeout: 20\r\nContent-Length: %d\r\n\r\n%s" % (len(body), body)
 
 
-def run(path, text, **more):
+def found_under(cookie, body):
+    return b"HTTP/1.1 200 OK\r\nTimeout: 20\r\nLockCookie: %d\r\nContent-Length: %d\r\n\r\n%s" % (cookie, len(body), body)
+
+
+def run(path, text, words=WORDS, **more):
     """The status and the bytes written."""
-    ran = subprocess.run([PROGRAM, *WORDS, path], input=text, stdout=subprocess.PIPE, **more)
+    ran = subprocess.run([PROGRAM, *words, path], input=text, stdout=subprocess.PIPE, **more)
     return ran.returncode, ran.stdout
 
 
@@ -69,6 +81,43 @@ def sqlite3_reads_and_writes(folder):
     read = run(path, get(b"b"))
     checked = statement(path, "PRAGMA integrity_check")
     return wrote == (0, DONE) and row == "2F61|78|20|0|0|0|0|86400000|1200000" and said == "" and read == (0, found(b"y")) and checked == "ok"
+
+
+def cookies_go_on(folder):
+    """A run draws from a block above that of the run before it, and a lock is held by its cookie from run to run."""
+    path = os.path.join(folder, "cookies.db")
+    first = run(path, put(b"a", b"x") + acquire(b"a"))
+    second = run(path, put_under(b"a", 1, b"y") + acquire(b"a"), words=["pipe", "5000", "1000", "1"])
+    rows = statement(path, "SELECT * FROM cookies")
+    good = first == (0, DONE + found_under(1, b"x")) and second == (0, DONE + found_under(4294967297, b"y"))
+    return good and rows == "1|8589934592"
+
+
+def file_of_before_goes_on_above_what_is_held(folder):
+    """A file without the table of the last cookie: the next run makes it, and begins above the cookie that is held."""
+    path = os.path.join(folder, "before.db")
+    run(path, put(b"a", b"x"))
+    statement(path, "DROP TABLE cookies; UPDATE items2 SET cookie = 7, since = 0")
+    ran = run(path, put(b"b", b"y") + acquire(b"b"))
+    return ran == (0, DONE + found_under(8, b"y")) and statement(path, "SELECT * FROM cookies") == "1|4294967303"
+
+
+def greatest_cookie_leaves_none(folder):
+    """Where the greatest cookie is held, an acquire is refused, and the rest goes on."""
+    path = os.path.join(folder, "greatest.db")
+    run(path, put(b"a", b"x"))
+    statement(path, "UPDATE items2 SET cookie = 9223372036854775807, since = 0")
+    out = b"HTTP/1.1 507 Cookies Out\r\nContent-Length: 0\r\n\r\n"
+    return run(path, put(b"b", b"y") + acquire(b"b") + get(b"b")) == (0, DONE + out + found(b"y"))
+
+
+def cookie_that_is_no_number_stops_the_run(folder):
+    """Where no block can be set aside, the status is 16, and nothing is read or written."""
+    path = os.path.join(folder, "no-number.db")
+    run(path, put(b"a", b"x"))
+    statement(path, "UPDATE items2 SET cookie = 'none'")
+    last = statement(path, "SELECT last FROM cookies")
+    return run(path, put(b"b", b"y")) == (16, b"") and statement(path, "SELECT last FROM cookies") == last
 
 
 def killed_run_keeps_its_replies(folder):
@@ -212,6 +261,50 @@ def file_that_may_not_be_written_is_refused(folder):
     return refused == (10, b"") and same and run(path, get(b"a")) == (0, found(b"x"))
 
 
+def folder_that_may_not_be_written_is_refused(folder):
+    """In a folder that may not be written, a file is neither made nor opened."""
+    if os.geteuid() != 0:
+        return None
+    guarded = os.path.join(folder, "read-only")
+    os.mkdir(guarded)
+    path = os.path.join(guarded, "there.db")
+    run(path, put(b"a", b"x"))
+    os.remove(path + "-wal")
+    os.chmod(path, 0o666)
+    os.chmod(guarded, 0o555)
+    there = run(path, put(b"a", b"y"), user=NOBODY)
+    absent = run(os.path.join(guarded, "absent.db"), put(b"a", b"y"), user=NOBODY)
+    names = os.listdir(guarded)
+    os.chmod(guarded, 0o777)
+    return there == (10, b"") and absent == (10, b"") and names == ["there.db"] and run(path, get(b"a")) == (0, found(b"x"))
+
+
+def run_on_a_full_disk_reads_nothing(folder):
+    """Where there is no room for the block, the run ends before it reads a request, and the next one with room goes on."""
+    small = os.path.join(folder, "full")
+    os.mkdir(small)
+    options = ["-t", "tmpfs", "-o", "size=512k", "tmpfs", small]
+    if os.geteuid() != 0 or subprocess.run(["mount", *options], stderr=subprocess.DEVNULL).returncode != 0:
+        return None
+    try:
+        path = os.path.join(small, "full.db")
+        run(path, put(b"a", b"x") + acquire(b"a"))
+        filler = os.path.join(small, "filler")
+        with open(filler, "wb", buffering=0) as file:
+            try:
+                while file.write(b"x" * 512):
+                    pass
+            except OSError:
+                pass
+        refused = run(path, put(b"b", b"y"))
+        os.remove(filler)
+        ran = run(path, put_under(b"a", 1, b"z") + acquire(b"a"))
+    finally:
+        subprocess.run(["umount", small])
+    print("  status %d" % refused[0])
+    return refused[0] in (10, 16) and refused[1] == b"" and ran[0] == 0 and ran[1].startswith(DONE) and ran[1].endswith(b"z")
+
+
 def full_disk_loses_no_reply(folder):
     """On a file system of 512 KiB, each write that was answered with success is there afterwards."""
     small = os.path.join(folder, "small")
@@ -238,6 +331,10 @@ def full_disk_loses_no_reply(folder):
 CASES = [
     items_survive,
     sqlite3_reads_and_writes,
+    cookies_go_on,
+    file_of_before_goes_on_above_what_is_held,
+    greatest_cookie_leaves_none,
+    cookie_that_is_no_number_stops_the_run,
     killed_run_keeps_its_replies,
     held_file_is_refused,
     file_held_by_sqlite_is_refused,
@@ -248,6 +345,8 @@ CASES = [
     killed_move_loses_no_row,
     row_that_is_no_item_refuses_the_file,
     file_that_may_not_be_written_is_refused,
+    folder_that_may_not_be_written_is_refused,
+    run_on_a_full_disk_reads_nothing,
     full_disk_loses_no_reply,
 ]
 

@@ -2,7 +2,7 @@
 _asp_state() {
     local word=${COMP_WORDS[COMP_CWORD]}
     local command=${COMP_WORDS[1]}
-    local commands='serve visit pipe trace replay drive load id'
+    local commands='serve visit pipe trace replay mirror drive load gate id'
     if [ "$COMP_CWORD" -eq 1 ]; then
         mapfile -t COMPREPLY < <(compgen -W "$commands --help --version --build --unproved" -- "$word")
         return
@@ -12,6 +12,11 @@ _asp_state() {
             # Names with spaces are quoted, and a folder gets its slash.
             compopt -o filenames
             mapfile -t COMPREPLY < <(compgen -f -- "$word")
+            ;;
+        gate:2) mapfile -t COMPREPLY < <(compgen -W 'cookie url --help' -- "$word") ;;
+        serve:5)
+            compopt -o filenames
+            mapfile -t COMPREPLY < <(compgen -d -- "$word")
             ;;
         visit:4) mapfile -t COMPREPLY < <(compgen -W 'exclusive readonly off' -- "$word") ;;
         visit:5) mapfile -t COMPREPLY < <(compgen -W 'save keep abandon' -- "$word") ;;

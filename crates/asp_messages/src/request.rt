@@ -37,6 +37,20 @@ impl Request {
             ask: self.ask.copy(alloc)?,
         })
     }
+
+    /// Another owner of the request's key and content, of which no byte is copied. The request
+    /// stays the same whatever it answers; the only error is want of memory, which the counts of
+    /// owners may take.
+    pub fn share(&mut self) -> Result<Request, NoMemory>
+        ensures same { self.new ≡ self.old }
+        ensures shared { IfOk result (λ other. other ≡ self.old) }
+    {
+        self.key.make_shared()?;
+        Ok(Request {
+            key: self.key.share()?,
+            ask: self.ask.share()?,
+        })
+    }
 }
 
 /// What a request asks.
@@ -91,6 +105,35 @@ impl Ask {
                 fresh: *fresh,
                 cookie: *cookie,
             },
+            Ask::Remove { cookie } => Ask::Remove { cookie: *cookie },
+            Ask::Reset => Ask::Reset,
+        })
+    }
+
+    /// Another owner of the ask's content, of which no byte is copied. The ask stays the same
+    /// whatever it answers; the only error is want of memory, which the count of owners may take.
+    pub fn share(&mut self) -> Result<Ask, NoMemory>
+        ensures same { self.new ≡ self.old }
+        ensures shared { IfOk result (λ other. other ≡ self.old) }
+    {
+        Ok(match self {
+            Ask::Read => Ask::Read,
+            Ask::Acquire => Ask::Acquire,
+            Ask::Release { cookie } => Ask::Release { cookie: *cookie },
+            Ask::Write {
+                body,
+                minutes,
+                fresh,
+                cookie,
+            } => {
+                body.make_shared()?;
+                Ask::Write {
+                    body: body.share()?,
+                    minutes: *minutes,
+                    fresh: *fresh,
+                    cookie: *cookie,
+                }
+            }
             Ask::Remove { cookie } => Ask::Remove { cookie: *cookie },
             Ask::Reset => Ask::Reset,
         })

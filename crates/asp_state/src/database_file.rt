@@ -4,9 +4,9 @@ ghost use Rattle.std.specs.Prelude.{◌≡◌, IfOk};
 use asp_base::status::{DATABASE_REFUSED, NO_MEMORY};
 use asp_base::{Sink, Source};
 use keeper::KeepError;
-use pipe_command::command;
 use sqlite::{Connection, Error, ErrorCode, File, FileStore};
 use sqlite_keeper::SqliteKeeper;
+use stored_command::command_stored;
 
 /// The keeper of the items in the file at the path, which is made where it is absent. An error is
 /// the status.
@@ -37,7 +37,7 @@ pub fn run_stored<S: Source, T: Sink>(
         Ok(keeper) => keeper,
         Err(status) => return status,
     };
-    let ran = command(rt.alloc(), words, source, sink, keeper);
+    let ran = command_stored(rt.alloc(), words, source, sink, keeper);
     // Where the file can't be closed, the log beside it keeps what was written.
     let _closed = ran.keeper.into_connection().close();
     ran.status

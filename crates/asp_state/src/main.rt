@@ -2,15 +2,18 @@
 #![tactic(auto)]
 
 mod database_file;
+mod serve_journals;
 mod serve_sockets;
 mod visit_socket;
 
 use asp_base::status::{NO_COMMAND, NO_MEMORY};
 use asp_base::{HostSink, HostSource};
 use database_file::run_stored;
+use id_gateway::{HostRandom, gateway, is_gate};
 use keeper::MapKeeper;
 use pipe_command::{command, path_of};
-use serve_command::serve_words;
+use serve_command::{serve_words, serve_words_with_folder};
+use serve_journals::run_serving_noted;
 use serve_sockets::run_serving;
 use std::process::ExitCode;
 use std::{env, io};
@@ -43,11 +46,21 @@ fn main(rt: HostRuntime) -> ExitCode {
     if let Some(said) = serve_words(&words) {
         return ExitCode::from(run_serving(&rt, alloc, &words, said));
     }
+    if let (Some(said), Some(folder)) = (serve_words_with_folder(&words), words.get(4)) {
+        let status = run_serving_noted(&rt, alloc, &words, said, folder.as_str());
+        return ExitCode::from(status);
+    }
     let mut sink = HostSink::new(rt.stdout());
     if let Some(port) = visit_port(&words) {
         return ExitCode::from(run_visiting(&rt, alloc, port, &words, &mut sink));
     }
     let mut source = HostSource::new(rt.stdin());
+    if is_gate(&words) {
+        let keeper = MapKeeper::new(alloc);
+        let random = HostRandom::new(&rt);
+        let gated = gateway(alloc, &words, &mut source, &mut sink, keeper, random);
+        return ExitCode::from(gated.status);
+    }
     let status = match path_of(&words) {
         Some(path) => run_stored(&rt, path, &words, &mut source, &mut sink),
         None => {

@@ -6,6 +6,10 @@ pub record Counter : Type 0 where
   pub next : ℕ
   pub last : ℕ
 
+-- no cookie at all: the next is past the last
+abbrev pub no_cookies : Counter
+no_cookies = record { next = 1; last = 0 }
+
 -- what the draw after j draws gives: the first cookie plus j, and nothing past the last
 abbrev pub nth_cookie : ℕ → ℕ → ℕ → Option ℕ
 nth_cookie first_cookie last j =

@@ -1,6 +1,6 @@
 //! A cookie counter for one thread.
 ghost use Rattle.std.specs.Prelude.{◌≡◌, ℕ, ◌+◌, ◌≤◌, ◌<◌, ◌^◌, ◌↔◌, IfSome, IsSome, IfNone, IsNone};
-ghost use Rattle.cookie_source.specs.Counting.{nth_cookie, counter_after};
+ghost use Rattle.cookie_source.specs.Counting.{no_cookies, nth_cookie, counter_after};
 
 use std::marker::Model;
 
@@ -40,6 +40,13 @@ impl PlainCookies {
         }
     }
 
+    /// No cookie at all: each draw gives `None`.
+    pub fn none() -> PlainCookies
+        ensures { result ≡ no_cookies }
+    {
+        PlainCookies { next: 1, last: 0 }
+    }
+
     /// The next cookie, or `None` where the last one was drawn.
     pub fn draw(&mut self) -> Option<u64>
         ensures some { IfSome result (λ n. n ≡ self.old.next) }
@@ -50,7 +57,7 @@ impl PlainCookies {
         ensures ends { IfNone result (self.new.next ≡ self.old.next) }
         ensures last { self.new.last ≡ self.old.last }
         // The j-th draw gives the j-th cookie, and one draw more is counted.
-        ensures nth { (first_cookie j : ℕ) → first_cookie ≤ self.old.last
+        ensures nth { (first_cookie j : ℕ) → first_cookie ≤ self.old.last + 1
             → self.old.next ≡ counter_after first_cookie self.old.last j
             → (result ≡ nth_cookie first_cookie self.old.last j)
             × (self.new.next ≡ counter_after first_cookie self.old.last (j + 1)) }

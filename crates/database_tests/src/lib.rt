@@ -3,6 +3,8 @@
 #![tactic(auto)]
 
 #[cfg(test)]
+mod cookies;
+#[cfg(test)]
 mod damaged;
 #[cfg(test)]
 mod keepers;

@@ -14,6 +14,8 @@ mod journals;
 #[cfg(test)]
 mod lines;
 #[cfg(test)]
+mod listings;
+#[cfg(test)]
 mod replay_changes;
 #[cfg(test)]
 mod replay_endings;

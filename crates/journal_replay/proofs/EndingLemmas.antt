@@ -12,14 +12,14 @@ use Rattle.journal_text.specs.JudgingChecker.{Checked, HasTaken}
 use Rattle.journal_text.specs.WritingText.{IsJournal}
 use Rattle.journal_text.specs.JudgingEntries.{Judges}
 use Rattle.journal_text.specs.ReadingText.{JournalReading, Taken, IsJournalOf, StopsAt, HasRead}
-use Rattle.journal_text.specs.JudgingLine.{judgement_line}
 use Rattle.journal_text.proofs.JournalLemmas.{journal_one, journal_stops}
 use Rattle.journal_replay.proofs.LineLemmas.{lines_of}
+use Rattle.journal_replay.specs.declared.report.ReplayReport.{ReplayReport}
 use Rattle.journal_replay.specs.declared.replay_verdict.ReplayVerdict.{ReplayVerdict}
 use Rattle.journal_replay.specs.declared.replay_verdict.ReplayVerdict.TheVariants as verdicts
 use Rattle.journal_replay.specs.declared.replayer.Replayer.{Replayer}
-use Rattle.journal_replay.specs.ReplayProgress.{ReplayBreaks, Checks, Finds, ReplayGave, HasReplayed, ReplayLacks, ReplayWaits, ReplayWent, verdict_of}
-use Rattle.journal_replay.specs.Replay.{ReplayEnd, ReplayEndsAs, GivesLocks, IsOwedLine, IsJudged, IsReplay, IsStatusOf, TellsJournal, TellsNoJournal, status_of_replay, replay_verdict_status}
+use Rattle.journal_replay.specs.ReplayProgress.{ReplayBreaks, Checks, Finds, ReplayGave, HasReplayed, ReplayLacks, ReplayWaits, ReplayWent, ReportsJudged, ReportsTaken, verdict_of}
+use Rattle.journal_replay.specs.Replay.{ReplayEnd, ReplayEndsAs, GivesLocks, IsOwedText, IsJudged, IsReplay, IsStatusOf, TellsJournal, TellsNoJournal, status_of_replay, replay_verdict_status}
 use Rattle.command_loop.specs.declared.consumer.Consumer.{Ghosts}
 use Rattle.command_loop.specs.declared.ending.RunEnd.TheVariants as ends
 use Rattle.command_loop.specs.Ending.{Ended, ConsumerIsOver, IfFewer, RunIsComplete}
@@ -34,47 +34,46 @@ locks_of profile (Legal entries) place list judges =
     LocksHoldIn-of_legal profile nothing 0 list judges.0
 locks_of profile (Illegal at why) place list judges = tt
 
--- the judgement that a checker gives of what it took, with its line
-judged_of : (bytes : List ℕ) (checker : Checked) (judgement : Judgement) (taken : Taken)
+-- the judgement that a checker gives of what it took
+judged_of : (bytes : List ℕ) (checker : Checked) (taken : Taken)
     → IsJournalOf bytes taken → Checks taken checker
-    → ((list : List Entry) → HasTaken checker list
-    → Judges checker.known.profile checker.first_place list judgement)
-    → (judged : IsJudged bytes judgement) × (judged.profile ≡ checker.known.profile)
-judged_of bytes checker judgement None journal checks judges = absurd journal
-judged_of bytes checker judgement (Some t) journal checks judges =
-    let judged : Judges t.0 t.1 t.2 judgement = subst (λ v. Judges v t.1 t.2 judgement) checks.0
-    (subst (λ p. Judges checker.known.profile p t.2 judgement) checks.1 (judges t.2 checks.2)) in (
+    → (judged : IsJudged bytes checker.verdict) × (judged.profile ≡ checker.known.profile)
+    × HasTaken checker judged.list
+judged_of bytes checker None journal checks = absurd journal
+judged_of bytes checker (Some t) journal checks =
+    let judged : Judges t.0 t.1 t.2 checker.verdict =
+    subst (λ v. Judges v t.1 t.2 checker.verdict) checks.0
+    (subst (λ p. Judges checker.known.profile p t.2 checker.verdict) checks.1 checks.2.judges) in (
       record {
         profile = t.0;
         place = t.1;
         list = t.2;
         journal = journal;
         judges = judged;
-        locks = locks_of t.0 judgement t.1 t.2 judged;
+        locks = locks_of t.0 checker.verdict t.1 t.2 judged;
       },
       sym checks.0,
+      checks.2,
     )
 
--- what the judgement finds, with its line
-pub finds_judged : (judgement : Judgement) (verdict : ReplayVerdict) (bytes : List ℕ)
-    (reader : JournalReading)
-    (checker : Checked) (line : List ℕ)
+-- what a checker's judgement finds, with its report
+pub finds_reported : (report : ReplayReport) (verdict : ReplayVerdict) (bytes text : List ℕ)
+    (reader : JournalReading) (checker : Checked)
     → ((text : List ℕ) (taken : Taken) → HasRead text taken reader → IsJournalOf text taken)
-    → ((list : List Entry) → HasTaken checker list
-    → Judges checker.known.profile checker.first_place list judgement)
-    → verdict ≡ verdict_of judgement → line ≡ judgement_line checker.known.profile judgement
-    → HasReplayed bytes reader checker → Finds verdict bytes line
-finds_judged judgement verdict bytes reader checker line journal judges is line_is has =
-    subst (λ v. Finds v bytes line) (sym is)
-    (let found = judged_of bytes checker judgement has.taken (journal bytes has.taken has.read)
-    has.checks judges in
-    finds judgement found.0 (line_is ∙ ap (λ v. judgement_line v judgement) (sym found.1)))
+    → ReportsTaken report checker text → verdict ≡ verdict_of checker.verdict
+    → HasReplayed bytes reader checker → Finds report verdict bytes text
+finds_reported report verdict bytes text reader checker journal reports is has =
+    subst (λ v. Finds report v bytes text) (sym is)
+    (let found = judged_of bytes checker has.taken (journal bytes has.taken has.read) has.checks in
+    finds checker.verdict found.0
+    (subst (λ p. ReportsJudged report p found.0.list checker.verdict text) (sym found.1)
+    (reports found.0.list found.2)))
   where
     finds : (judgement : Judgement) (judged : IsJudged bytes judgement)
-        → line ≡ judgement_line judged.profile judgement
-        → Finds (verdict_of judgement) bytes line
-    finds (Legal entries) judged line_is = (entries, judged, line_is)
-    finds (Illegal place why) judged line_is = (place, why, judged, line_is)
+        → ReportsJudged report judged.profile judged.list judgement text
+        → Finds report (verdict_of judgement) bytes text
+    finds (Legal entries) judged told = (entries, judged, told)
+    finds (Illegal place why) judged told = (place, why, judged, told)
 
 -- ---- a run of the consumer is a replay
 
@@ -85,7 +84,7 @@ ghosts = record {
   gave = ReplayGave;
   lacks = ReplayLacks;
   work = λ now. length now.reader.held;
-  parts = λ now. (now.line.items, []);
+  parts = λ now. (now.text.items, []);
 }
 
 nothing_taken : (sink sink' : Option (List ℕ)) → Takes sink sink' [] → sink' ≡ sink
@@ -99,7 +98,7 @@ module _ (most : ℕ) (first now : Replayer) (source' : Option (List ℕ
   -- what a replay is over with is owed, and nothing was written before it
   owed_of : (verdict : ReplayVerdict) (whole last : List ℕ)
       → ConsumerIsOver ghosts most first now source' bytes verdict whole last → (whole ≡ [])
-      × IsOwedLine verdict source' bytes most last
+      × IsOwedText first.report verdict source' bytes most last
   owed_of verdicts.Legal whole last (inl (closes, end, some)) = (closes.0, ((end, some), closes.1))
   owed_of verdicts.Illegal whole last (inl (closes, end, some)) =
       (closes.0, ((end, some), closes.1))
@@ -127,7 +126,7 @@ module _ (most : ℕ) (first now : Replayer) (source source' : Option (List ℕ 
   where
     ends_of : (end : ReplayEnd)
         (run : Ended ghosts most first now (flow source source' sink sink') end)
-        → ReplayEndsAs end source' sink sink' run.taken most
+        → ReplayEndsAs first.report end source' sink sink' run.taken most
     ends_of (ends.Over verdict) run =
         let (whole, last, over, wrote) = run.ends in
         let owed = owed_of most first now source' sink sink' run.taken verdict whole last over in (
@@ -150,7 +149,7 @@ module _ (most : ℕ) (first now : Replayer) (source source' : Option (List ℕ 
             × ConsumerIsOver ghosts most first now source' run.taken verdict whole last)
             ⊎ (last ≡ [])
             → 0 < length last → n ≤ length last → Takes sink sink' (whole ++ take n last)
-            → ReplayEndsAs ends.WriteFault source' sink sink' run.taken most
+            → ReplayEndsAs first.report ends.WriteFault source' sink sink' run.taken most
         in_part whole last n (inl (found, over)) some le wrote =
             let owed = owed_of most first now source' sink sink' run.taken found whole last
             over in (
@@ -173,7 +172,7 @@ module _ (most : ℕ) (first now : Replayer) (source source' : Option (List ℕ 
 
     pub replay_of : (end : ReplayEnd)
         → Ended ghosts most first now (flow source source' sink sink') end
-        → IsReplay most source source' sink sink' end
+        → IsReplay first.report most source source' sink sink' end
     replay_of end run = record {
       bytes = run.taken;
       given = run.given;
@@ -189,7 +188,7 @@ module _ (first now : Replayer) (input : List ℕ) where
       → ReplayGave (OverAtEnd verdict) first now input whole last
       ⊎ ((front : List ℕ) × (behind : List ℕ) × (more : Bool) × (input ≡ front ++ behind)
       × ReplayBreaks verdict front whole last)
-      → (line : List ℕ) × Finds verdict input line
+      → (line : List ℕ) × Finds first.report verdict input line
   found_of verdict whole last (inl closes) = (last, closes.1)
   found_of verdicts.NotAJournal whole last (inr (front, behind, more, is, breaks)) = (
     last,
@@ -202,7 +201,7 @@ module _ (first now : Replayer) (input : List ℕ) where
   found_of verdicts.Legal whole last (inr (front, behind, more, is, breaks)) = absurd breaks
   found_of verdicts.Illegal whole last (inr (front, behind, more, is, breaks)) = absurd breaks
 
-module _ (input : List ℕ) where
+module _ (report : ReplayReport) (input : List ℕ) where
   judges_of : (judgement : Judgement) → IsJudged input judgement → (profile : Profile) (place : ℕ)
       (list : List Entry) → IsJournal input profile place list
       → Judges profile place list judgement
@@ -213,7 +212,7 @@ module _ (input : List ℕ) where
       (subst (λ p. Judges judged.profile p list judgement) one.1
       (subst (λ l. Judges judged.profile judged.place l judgement) one.2 judged.judges))
 
-  status_judged : (verdict : ReplayVerdict) (line : List ℕ) → Finds verdict input line
+  status_judged : (verdict : ReplayVerdict) (line : List ℕ) → Finds report verdict input line
       → (profile : Profile) (place : ℕ) (list : List Entry) → IsJournal input profile place list
       → IsStatusOf (replay_verdict_status verdict) profile place list
   status_judged verdicts.Legal line (entries, judged, is) profile place list journal =
@@ -223,7 +222,7 @@ module _ (input : List ℕ) where
   status_judged verdicts.NotAJournal line (offset, stops, is) profile place list journal =
       absurd (journal_stops input profile place offset list journal stops)
 
-  status_refused : (verdict : ReplayVerdict) (line : List ℕ) → Finds verdict input line
+  status_refused : (verdict : ReplayVerdict) (line : List ℕ) → Finds report verdict input line
       → ((profile : Profile) (place : ℕ) (list : List Entry) → IsJournal input profile place list
       → ⊥)
       → (replay_verdict_status verdict ≡ 3) ⊎ (replay_verdict_status verdict ≡ 6)
@@ -243,7 +242,7 @@ module _ (most : ℕ) (first now : Replayer) (f : Flow) where
   judged-complete (Some told) (ends.Over verdict) complete profile place list tells =
       let (whole, last, over, wrote) = complete tells.0 in
       let found = found_of first now told.1 verdict whole last over in
-      status_judged told.1 verdict found.0 found.1 profile place list tells.1
+      status_judged first.report told.1 verdict found.0 found.1 profile place list tells.1
   judged-complete (Some told) ends.NoMemory complete profile place list tells = inr refl
   judged-complete (Some told) ends.ReadFault complete profile place list tells =
       absurd (complete tells.0)
@@ -259,7 +258,7 @@ module _ (most : ℕ) (first now : Replayer) (f : Flow) where
   refused-complete (Some told) (ends.Over verdict) complete tells =
       let (whole, last, over, wrote) = complete tells.0 in
       let found = found_of first now told.1 verdict whole last over in
-      status_refused told.1 verdict found.0 found.1 tells.1
+      status_refused first.report told.1 verdict found.0 found.1 tells.1
   refused-complete (Some told) ends.NoMemory complete tells = inr refl
   refused-complete (Some told) ends.ReadFault complete tells = absurd (complete tells.0)
   refused-complete (Some told) ends.WriteFault complete tells = absurd (complete tells.0)

@@ -1,4 +1,4 @@
--- A replay: a journal that is read and judged, from the bytes that were taken to the line that was
+-- A replay: a journal that is read and judged, from the bytes that were taken to the text that was
 -- written.
 use Rattle.std.specs.Prelude.{◌≡◌, ◌⊎◌, ℕ, ◌<◌, ◌≤◌, List, ◌++◌, length, codes, decimal, Option, Some, None, ⊤}
 use Rattle.asp_base.specs.Outside.{Gives, IsAtEnd, Takes, TakesFront}
@@ -7,14 +7,17 @@ use Rattle.plain_words.specs.Words.{HasNo}
 use Rattle.session_machine.specs.declared.entry.Entry.{Entry}
 use Rattle.session_machine.specs.declared.item.Profile.{Profile}
 use Rattle.session_machine.specs.History.{nothing}
+use Rattle.session_listing.specs.Listing.{ListsSessions}
 use Rattle.lock_laws.specs.Laws.{LocksHoldIn}
 use Rattle.journal_text.specs.declared.judging.judgement.Judgement.{Judgement}
 use Rattle.journal_text.specs.declared.judging.judgement.Judgement.TheVariants.{Legal, Illegal}
 use Rattle.journal_text.specs.declared.judging.judgement.Why.{Why}
 use Rattle.journal_text.specs.WritingText.{IsJournal, most_journal_line}
-use Rattle.journal_text.specs.JudgingEntries.{Judges}
+use Rattle.journal_text.specs.JudgingEntries.{Judges, item_before}
 use Rattle.journal_text.specs.ReadingText.{Taken, TakenFits, StopsAt, taken_text}
 use Rattle.journal_text.specs.JudgingLine.{judgement_line}
+use Rattle.journal_replay.specs.declared.report.ReplayReport.{ReplayReport}
+use Rattle.journal_replay.specs.declared.report.ReplayReport.TheVariants as reports
 use Rattle.journal_replay.specs.declared.replay_verdict.ReplayVerdict.{ReplayVerdict}
 use Rattle.journal_replay.specs.declared.replay_verdict.ReplayVerdict.TheVariants as verdicts
 use Rattle.command_loop.specs.declared.ending.RunEnd as run
@@ -68,34 +71,42 @@ ReplayEnd = run.RunEnd ReplayVerdict
 unfoldable pub stop_line : ℕ → List ℕ
 stop_line offset = (codes "not a journal at" then decimal offset) ++ codes "\n"
 
--- the line that is owed where this was found
-abbrev pub IsOwedLine : ReplayVerdict → Option (List ℕ × List ℕ) → List ℕ → ℕ → List ℕ → Type 0
-IsOwedLine verdicts.Legal source' bytes most line =
-    IsAll source' bytes most
-    × ((entries : ℕ) × (judged : IsJudged bytes (Legal entries))
-    × (line ≡ judgement_line judged.profile (Legal entries)))
-IsOwedLine verdicts.Illegal source' bytes most line =
-    IsAll source' bytes most
-    × ((place : ℕ) × (why : Why) × (judged : IsJudged bytes (Illegal place why))
-    × (line ≡ judgement_line judged.profile (Illegal place why)))
-IsOwedLine verdicts.NotAJournal source' bytes most line =
-    (offset : ℕ) × InputStopsAt source' bytes most offset × (line ≡ stop_line offset)
+-- what is reported of a legal history of the profile: the line of its judgement, or what lives
+-- behind it at a moment
+abbrev pub Reports : ReplayReport → Profile → List Entry → ℕ → List ℕ → Type 0
+Reports reports.Judgement profile list entries text =
+    text ≡ judgement_line profile (Legal entries)
+Reports (reports.Sessions moment) profile list entries text =
+    ListsSessions moment (item_before profile list) text
 
--- What holds at each ending: of the source and the sink after it, and of the bytes taken, which are
--- at most this many.
-abbrev pub ReplayEndsAs : ReplayEnd → Option (List ℕ × List ℕ) → Option (List ℕ) → Option (List ℕ)
-    → List ℕ → ℕ
-    → Type 0
-ReplayEndsAs (ends.Over verdict) source' sink sink' bytes most =
-    (line : List ℕ) × IsOwedLine verdict source' bytes most line × Takes sink sink' line
-ReplayEndsAs ends.ReadFault source' sink sink' bytes most =
-    AreJournalLines bytes × (length bytes < most) × (sink' ≡ sink)
-ReplayEndsAs ends.WriteFault source' sink sink' bytes most =
-    (verdict : ReplayVerdict) × (line : List ℕ) × IsOwedLine verdict source' bytes most line
-    × TakesFront sink sink' line
-ReplayEndsAs ends.NoMemory source' sink sink' bytes most = sink' ≡ sink
-ReplayEndsAs ends.Long source' sink sink' bytes most =
-    AreJournalLines bytes × (length bytes ≡ most) × (sink' ≡ sink)
+module _ (report : ReplayReport) where
+  -- the text that is owed where this was found
+  abbrev pub IsOwedText : ReplayVerdict → Option (List ℕ × List ℕ) → List ℕ → ℕ → List ℕ → Type 0
+  IsOwedText verdicts.Legal source' bytes most text =
+      IsAll source' bytes most
+      × ((entries : ℕ) × (judged : IsJudged bytes (Legal entries))
+      × Reports report judged.profile judged.list entries text)
+  IsOwedText verdicts.Illegal source' bytes most text =
+      IsAll source' bytes most
+      × ((place : ℕ) × (why : Why) × (judged : IsJudged bytes (Illegal place why))
+      × (text ≡ judgement_line judged.profile (Illegal place why)))
+  IsOwedText verdicts.NotAJournal source' bytes most text =
+      (offset : ℕ) × InputStopsAt source' bytes most offset × (text ≡ stop_line offset)
+
+  -- What holds at each ending: of the source and the sink after it, and of the bytes taken, which
+  -- are at most this many.
+  abbrev pub ReplayEndsAs : ReplayEnd → Option (List ℕ × List ℕ) → Option (List ℕ)
+      → Option (List ℕ) → List ℕ → ℕ → Type 0
+  ReplayEndsAs (ends.Over verdict) source' sink sink' bytes most =
+      (text : List ℕ) × IsOwedText verdict source' bytes most text × Takes sink sink' text
+  ReplayEndsAs ends.ReadFault source' sink sink' bytes most =
+      AreJournalLines bytes × (length bytes < most) × (sink' ≡ sink)
+  ReplayEndsAs ends.WriteFault source' sink sink' bytes most =
+      (verdict : ReplayVerdict) × (text : List ℕ) × IsOwedText verdict source' bytes most text
+      × TakesFront sink sink' text
+  ReplayEndsAs ends.NoMemory source' sink sink' bytes most = sink' ≡ sink
+  ReplayEndsAs ends.Long source' sink sink' bytes most =
+      AreJournalLines bytes × (length bytes ≡ most) × (sink' ≡ sink)
 
 -- the exit status of what was found
 abbrev pub replay_verdict_status : ReplayVerdict → ℕ
@@ -107,13 +118,14 @@ replay_verdict_status verdicts.Illegal = 8
 abbrev pub status_of_replay : ReplayEnd → ℕ
 status_of_replay end = status_with replay_verdict_status end
 
--- A replay: these bytes were taken, and it ended so.
-pub record IsReplay (most : ℕ) (source source' : Option (List ℕ × List ℕ))
-    (sink sink' : Option (List ℕ)) (end : ReplayEnd) : Type 0 where
-  pub bytes : List ℕ
-  pub given : Gives source source' bytes
-  pub within : length bytes ≤ most
-  pub ends : ReplayEndsAs end source' sink sink' bytes most
+module _ (report : ReplayReport) where
+  -- A replay that reports so: these bytes were taken, and it ended so.
+  pub record IsReplay (most : ℕ) (source source' : Option (List ℕ × List ℕ))
+      (sink sink' : Option (List ℕ)) (end : ReplayEnd) : Type 0 where
+    pub bytes : List ℕ
+    pub given : Gives source source' bytes
+    pub within : length bytes ≤ most
+    pub ends : ReplayEndsAs report end source' sink sink' bytes most
 
 -- ---- completeness
 

@@ -1,13 +1,14 @@
 //! A journal that is read and judged, line by line.
-ghost use Rattle.std.specs.Prelude.{◌≡◌, ◌++◌, [], OnOk};
-ghost use Rattle.journal_replay.specs.ReplayProgress.{ReplayWent, verdict_of};
+ghost use Rattle.std.specs.Prelude.{◌≡◌, ◌++◌, [], ℕ, List, OnOk};
+ghost use Rattle.journal_replay.specs.ReplayProgress.{IsLegalVerdict, ReplayWent, ReportsTaken, verdict_of};
 ghost use Rattle.journal_replay.specs.Replay.{stop_line};
 
-use crate::ReplayVerdict;
+use crate::{ReplayReport, ReplayVerdict};
 use asp_base::NoMemory;
 use command_loop::{Consumer, Stepped};
 use itoa::Buffer;
 use journal_text::{Checker, JournalNext, JournalReader, Judgement, write_judgement};
+use session_listing::list_sessions;
 use session_machine::Profile;
 use std::alloc::Global;
 
@@ -15,9 +16,10 @@ use std::alloc::Global;
 #[derive(Debug, Drop)]
 pub struct Replayer {
     alloc: Global,
+    report: ReplayReport,
     reader: JournalReader,
     checker: Checker,
-    line: Vec<u8>,
+    text: Vec<u8>,
 }
 
 /// Appends the line that tells at which offset a text is no journal.
@@ -42,16 +44,43 @@ fn verdict_of(judgement: &Judgement) -> ReplayVerdict
     }
 }
 
+/// Appends what is reported of a legal history.
+fn write_legal(out: &mut Vec<u8>, report: ReplayReport, checker: &Checker) -> Result<(), NoMemory>
+    requires legal { IsLegalVerdict checker.now.verdict }
+    ensures { OnOk result ((text : List ℕ) × (out.new.items ≡ out.old.items ++ text)
+        × ReportsTaken report checker.now text) }
+{
+    match report {
+        ReplayReport::Judgement => write_judgement(out, checker.profile(), checker.verdict()),
+        ReplayReport::Sessions { moment } => list_sessions(out, checker.map(), moment),
+    }
+}
+
+/// Appends what is reported of the entries that were taken: what lives behind a legal history,
+/// where that is asked for, and else the line of the judgement.
+fn write_report(out: &mut Vec<u8>, report: ReplayReport, checker: &Checker) -> Result<(), NoMemory>
+    ensures { OnOk result ((text : List ℕ) × (out.new.items ≡ out.old.items ++ text)
+        × ReportsTaken report checker.now text) }
+{
+    let judgement = checker.verdict();
+    match judgement {
+        Judgement::Legal { .. } => write_legal(out, report, checker),
+        Judgement::Illegal { .. } => write_judgement(out, checker.profile(), judgement),
+    }
+}
+
 impl Replayer {
-    /// Nothing was read. It takes no memory.
-    pub fn new(alloc: Global) -> Replayer
+    /// Nothing was read, and this is what will be reported. It takes no memory.
+    pub fn new(alloc: Global, report: ReplayReport) -> Replayer
         ensures begun { ReplayWent result result [] [] }
+        ensures report { result.report ≡ report }
     {
         Replayer {
             alloc,
+            report,
             reader: JournalReader::new(alloc),
             checker: Checker::new(alloc, Profile::Three, 0),
-            line: Vec::new(alloc),
+            text: Vec::new(alloc),
         }
     }
 }
@@ -72,7 +101,7 @@ impl Consumer for Replayer {
 
     ghost work = { λ now. length now.reader.held };
 
-    ghost parts = { λ now. (now.line.items, []) };
+    ghost parts = { λ now. (now.text.items, []) };
 
     fn feed(&mut self, piece: &[u8]) -> Result<(), NoMemory> {
         self.reader.feed(piece)
@@ -89,7 +118,7 @@ impl Consumer for Replayer {
                 Err(NoMemory) => Stepped::NoMemory,
             },
             JournalNext::More => Stepped::More,
-            JournalNext::NotAJournal { offset } => match write_stop(&mut self.line, offset) {
+            JournalNext::NotAJournal { offset } => match write_stop(&mut self.text, offset) {
                 Ok(()) => Stepped::Over(ReplayVerdict::NotAJournal),
                 Err(NoMemory) => Stepped::NoMemory,
             },
@@ -100,18 +129,17 @@ impl Consumer for Replayer {
     fn finish(&mut self) -> Result<ReplayVerdict, NoMemory> {
         match self.reader.finish() {
             None => {
-                let judgement = self.checker.verdict();
-                write_judgement(&mut self.line, self.checker.profile(), judgement)?;
-                Ok(verdict_of(judgement))
+                write_report(&mut self.text, self.report, &self.checker)?;
+                Ok(verdict_of(self.checker.verdict()))
             }
             Some(offset) => {
-                write_stop(&mut self.line, offset)?;
+                write_stop(&mut self.text, offset)?;
                 Ok(ReplayVerdict::NotAJournal)
             }
         }
     }
 
     fn parts(&self) -> (&[u8], &[u8]) {
-        (self.line.as_slice(), &[])
+        (self.text.as_slice(), &[])
     }
 }

@@ -1,18 +1,19 @@
 -- What a reader has read of a text goes on by each call.
 use Rattle.std.proofs.Common.{◌≡◌, ◌≢◌, ℕ, ◌+◌, ◌<◌, Bool, true, false, List, [], ◌∷◌, ◌++◌, length, take, drop, Option, Some, None, Result, Ok, Err, OnOk, refl, sym, ap, ◌∙◌, arith, append_assoc, append-nil, length-append, length-take, subst, inl, inr, ◌⊎◌}
-use Rattle.std.specs.Prelude.{codes, MatchBool, if◌then◌else◌}
+use Rattle.std.specs.Prelude.{codes, MatchBool, MatchOption, if◌then◌else◌}
 use Rattle.std.specs.List.{AllByRecursion}
 use Rattle.std.proofs.lemmas.Bool.{cases_eq}
 use Rattle.std.proofs.lemmas.List.{flat_map_more}
-use Rattle.std.proofs.lemmas.List.Elements.{All-append, All-cons, All-nil}
+use Rattle.std.proofs.lemmas.List.Elements.{All-append, All-cons, All-head, All-nil, All-tail}
 use Rattle.session_machine.specs.declared.entry.Entry.{Entry}
 use Rattle.session_machine.specs.declared.item.Profile.{Profile}
 use Rattle.plain_words.specs.Words.{HasNo, SplitsAt}
+use Rattle.plain_words.proofs.SplitLemmas.{split_same}
 use Rattle.journal_text.specs.declared.reading.journal_reader.JournalNext.{JournalNext}
 use Rattle.journal_text.specs.declared.reading.journal_reader.JournalNext.TheVariants as nexts
 use Rattle.journal_text.specs.WritingText.{head_words, entry_words, ended_line, head_line, entry_line, journal_text, PlaceFits, EntryFits}
 use Rattle.journal_text.specs.ReadingAnswers.{taken_with, IfNotAJournal}
-use Rattle.journal_text.specs.ReadingText.{IsTooLong, IsNoLine, Taken, taken_text, StopsAt, JournalReading, reading_fed, reading_broken, HasRead}
+use Rattle.journal_text.specs.ReadingText.{IsTooLong, IsNoLine, Taken, taken_text, StopsAt, JournalReading, TakesLine, TakesEntry, BeginsWith, BeginsWithEntry, reading_fed, reading_broken, HasRead}
 use Rattle.journal_text.specs.ReadingWords.{IsEntry}
 use Rattle.journal_text.proofs.JournalLemmas.{line_then, line_short}
 
@@ -331,15 +332,19 @@ module _ (lines : List ℕ) (offset : ℕ) (begun : Option Profile) (is_broken m
           ⊎ IsNoLine self.begun self.held)) (sym answer)
           (inr (subst (λ r. IsNoLine r.begun r.held) self_is wrong))
 
+      pub broken_keeps : (new : JournalReading) → new ≡ reading_broken (state begun is_broken)
+          → (text : List ℕ) (taken : Taken) → HasRead text taken self → HasRead text taken new
+      broken_keeps new new_is text taken has =
+          subst (HasRead text taken) (sym new_is)
+          (breaks lines offset begun may_feed wrong text taken
+          (subst (HasRead text taken) (sym (was begun refl)) has))
+
       pub broken_reads : (new : JournalReading) → new ≡ reading_broken (state begun is_broken)
           → (text : List ℕ) (taken : Taken) → HasRead text taken self
           → HasRead text (taken_with result taken) new
       broken_reads new new_is text taken has =
           let kept : taken_with result taken ≡ taken = ap (λ r. taken_with r taken) answer in
-          subst (λ t. HasRead text t new) (sym kept)
-          (subst (HasRead text taken) (sym new_is)
-          (breaks lines offset begun may_feed wrong text taken
-          (subst (HasRead text taken) (sym (was begun refl)) has)))
+          subst (λ t. HasRead text t new) (sym kept) (broken_keeps new new_is text taken has)
 
       pub broken_stops : IfNotAJournal result
           (λ at. (text : List ℕ) (taken : Taken) → HasRead text taken self → StopsAt text at)
@@ -348,3 +353,128 @@ module _ (lines : List ℕ) (offset : ℕ) (begun : Option Profile) (is_broken m
           → HasRead text taken self → StopsAt text at)) (sym answer)
           (λ text taken has. stops_there lines offset begun may_feed wrong text taken
           (subst (HasRead text taken) (sym (was begun refl)) has))
+
+-- ---- a line that is looked at, and then taken
+
+no_split : (words rest : List ℕ) → HasNo 10 (words ++ 10 ∷ rest) → ⊥
+no_split [] rest all = All-head (λ (b : ℕ). b ≢ 10) 10 rest all refl
+no_split (w ∷ ws) rest all =
+    no_split ws rest (All-tail (λ (b : ℕ). b ≢ 10) w (ws ++ 10 ∷ rest) all)
+
+pub none_found : (r : Option ℕ) (A : Type 0) (B : ℕ → Type 0) → ((n : ℕ) → r ≡ Some n → ⊥)
+    → MatchOption r A B → A
+none_found None A B apart h = h
+none_found (Some n) A B apart h = absurd (apart n refl)
+
+-- what is taken behind a first line is known by the reader
+was_begun : (text : List ℕ) (taken : Taken) (r : JournalReading) → HasRead text taken r
+    → r.is_broken ≡ false → (profile : Profile) → r.begun ≡ Some profile
+    → HasRead text taken (whole_reader r.held r.offset (Some profile) r.may_feed)
+was_begun text taken r has whole profile started = record {
+  rest = has.rest;
+  fits = has.fits;
+  text_is = has.text_is;
+  offset_is = has.offset_is;
+  begun = sym started ∙ has.begun;
+  holds = subst (λ b. MatchBool b (IsNoLine r.begun has.rest) (has.rest ≡ r.held)) whole has.holds;
+}
+
+module _ (lines : List ℕ) (offset : ℕ) (begun : Option Profile) (is_broken may_feed : Bool) (self :
+    JournalReading)
+    (self_is : reader_with lines offset begun is_broken may_feed ≡ self)
+  where
+    pub nothing_passes : HasNo 10 lines → (words : List ℕ) → BeginsWith words self → ⊥
+    nothing_passes none words begins =
+        let begins' = subst (BeginsWith words) (sym self_is) begins in
+        no_split words begins'.1.0 (subst (HasNo 10) begins'.1.1.joined none)
+
+    pub not_begun : ((profile : Profile) → begun ≡ Some profile → ⊥) → (e : Entry)
+        → BeginsWithEntry e self → ⊥
+    not_begun none e begins = none begins.profile
+        (ap (λ (r : JournalReading). r.begun) self_is ∙ begins.started)
+
+    module _ (after : List ℕ) (len : ℕ) (same : after ≡ lines)
+        (line_at : (len < length lines) × SplitsAt 10 lines (take len lines) (drop (len + 1) lines))
+      where
+        pub passed_line : (profile : Profile) (new : JournalReading)
+            → new ≡ reader_with (drop (len + 1) after) (offset + (len + 1)) (Some profile) is_broken
+            false
+            → (words : List ℕ) → BeginsWith words self → TakesLine profile words self new
+        passed_line profile new new_is words begins =
+            let begins' = subst (BeginsWith words) (sym self_is) begins in
+            let one = split_same 10 lines (take len lines) (drop (len + 1) lines) words
+            begins'.1.0 line_at.1 begins'.1.1 in
+            let at = line_is lines offset len may_feed line_at.0 line_at.1 words one.0 in
+            subst (λ s. TakesLine profile words s new) self_is (record {
+              held = at.0 ∙ ap (λ l. ended_line words ++ drop (len + 1) l) (sym same)
+                  ∙ ap (λ h. ended_line words ++ h)
+                  (sym (ap (λ (r : JournalReading). r.held) new_is));
+              offset = ap (λ (r : JournalReading). r.offset) new_is
+                  ∙ ap (λ n. offset + n) (sym at.1);
+              was_whole = begins'.0;
+              is_whole = ap (λ (r : JournalReading). r.is_broken) new_is ∙ begins'.0;
+              begun = ap (λ (r : JournalReading). r.begun) new_is;
+            })
+
+        pub passed : (profile : Profile) (new : JournalReading) → begun ≡ Some profile
+            → new ≡ reader_with (drop (len + 1) after) (offset + (len + 1)) (Some profile) is_broken
+            false
+            → (e : Entry) → BeginsWithEntry e self → TakesEntry e self new
+        passed profile new started new_is e begins =
+            let same_profile : begins.profile ≡ profile = some_one begins.profile profile
+            (sym begins.started ∙ ap (λ (r : JournalReading). r.begun) (sym self_is)
+            ∙ started) in
+            record {
+              profile = begins.profile;
+              started = begins.started;
+              fits = begins.fits;
+              takes = passed_line begins.profile new
+                  (new_is ∙ ap (λ p. reader_with (drop (len + 1) after) (offset + (len + 1))
+                  (Some p) is_broken false) (sym same_profile))
+                  (entry_words begins.profile e) begins.begins;
+            }
+
+        pub passed_reads : (profile : Profile) (new : JournalReading) → begun ≡ Some profile
+            → new ≡ reader_with (drop (len + 1) after) (offset + (len + 1)) (Some profile) is_broken
+            false
+            → (e : Entry) → BeginsWithEntry e self → (text : List ℕ) (taken : Taken)
+            → HasRead text taken self → HasRead text (taken_with (nexts.Entry e) taken) new
+        passed_reads profile new started new_is e begins text taken has =
+            let begins' = subst (BeginsWithEntry e) (sym self_is) begins in
+            let same_profile : begins'.profile ≡ profile =
+            some_one begins'.profile profile (sym begins'.started ∙ started) in
+            let one = split_same 10 lines (take len lines) (drop (len + 1) lines)
+            (entry_words begins'.profile e)
+            begins'.begins.1.0 line_at.1 begins'.begins.1.1 in
+            let whole : is_broken ≡ false = begins'.begins.0 in
+            let new_whole : whole_reader (drop (len + 1) lines) (offset + (len + 1))
+            (Some begins'.profile) false ≡ new =
+            ap (λ p. whole_reader (drop (len + 1) lines) (offset + (len + 1)) (Some p) false)
+            same_profile
+            ∙ ap (λ k. reader_with (drop (len + 1) lines) (offset + (len + 1)) (Some profile) k
+            false) (sym whole)
+            ∙ ap (λ l. reader_with (drop (len + 1) l) (offset + (len + 1)) (Some profile)
+            is_broken false) (sym same) ∙ sym new_is in
+            subst (HasRead text (taken_with (nexts.Entry e) taken)) new_whole
+            (entry_goes_on lines offset len may_feed line_at.0 line_at.1 text taken begins'.profile
+            e begins'.fits one.0
+            (was_begun text taken (reader_with lines offset begun is_broken may_feed)
+            (subst (HasRead text taken) (sym self_is) has) whole begins'.profile begins'.started))
+
+        pub looked : (slice words : List ℕ) → slice ≡ after → is_broken ≡ false
+            → take len slice ≡ words → BeginsWith words self
+        looked slice words sliced whole is =
+            let are = ap (take len) (sym same ∙ sym sliced) ∙ is in
+            subst (BeginsWith words) self_is (
+              whole,
+              (
+                drop (len + 1) lines,
+                subst (λ w. SplitsAt 10 lines w (drop (len + 1) lines)) are line_at.1,
+              ),
+            )
+
+        pub looked_same : reader_with after offset begun is_broken may_feed ≡ self
+        looked_same = ap (λ l. reader_with l offset begun is_broken may_feed) same ∙ self_is
+
+        pub looked_begun : begun ≡ None → self.begun ≡ None
+        looked_begun none = ap (λ (r : JournalReading). r.begun) (sym self_is) ∙ none

@@ -1,5 +1,5 @@
 -- A checker, as its callers see it.
-use Rattle.std.specs.Prelude.{◌≡◌, ℕ, List, length, Option, ⊤}
+use Rattle.std.specs.Prelude.{◌≡◌, ℕ, ◌-◌, List, length, take, Option}
 use Rattle.std.specs.BTreeMap.{is_at}
 use Rattle.std.specs.Cmp.Lexicographic.{slice_cmp}
 use Rattle.std.specs.Map.{lookup}
@@ -20,7 +20,7 @@ pub record Known : Type 0 where
   pub items : List (List ℕ × Item)
 
 -- The place of the first entry, how many entries were taken, the judgement of these, and what is
--- known while they are legal.
+-- known behind those before the first that may not stand.
 pub record Checked : Type 0 where
   pub first_place : ℕ
   pub taken : ℕ
@@ -37,13 +37,14 @@ pub record KnowsHistory (known : Known) (list : List Entry) : Type 0 where
   pub draw : known.draw ≡ draw_before list
   pub items : (key : List ℕ) → item_among known.items key ≡ item_before known.profile list key
 
--- an illegal list needs no more to be known
-abbrev pub KnowsWhileLegal : Judgement → Known → List Entry → Type 0
-KnowsWhileLegal (Legal entries) known list = KnowsHistory known list
-KnowsWhileLegal (Illegal place why) known list = ⊤
+-- the entries before the first that may not stand, of a list whose first entry has this place
+abbrev pub legal_front : ℕ → Judgement → List Entry → List Entry
+legal_front first_place (Legal entries) list = list
+legal_front first_place (Illegal place why) list = take (place - first_place) list
 
--- The checker has taken the entries of the list, and no others.
+-- The checker has taken the entries of the list, and no others, and knows what stands behind those
+-- before the first that may not stand.
 pub record HasTaken (c : Checked) (list : List Entry) : Type 0 where
   pub taken : c.taken ≡ length list
   pub judges : Judges c.known.profile c.first_place list c.verdict
-  pub knows : KnowsWhileLegal c.verdict c.known list
+  pub knows : KnowsHistory c.known (legal_front c.first_place c.verdict list)

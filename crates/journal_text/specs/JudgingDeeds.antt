@@ -60,6 +60,12 @@ LeavesOf profile old new request at reply left =
     × IsLeft (after_reply profile (Some old) at.moment at.drawn request.ask reply)
     request.key old new left
 
+-- the item is as it was where the request may not have been answered so
+abbrev pub StaysWhereWrong : Item → Item → Left → Type 0
+StaysWhereWrong old new (left.Wrong why) = new ≡ old
+StaysWhereWrong old new left.Item = ⊤
+StaysWhereWrong old new (left.Nothing gone) = ⊤
+
 -- the deed may be done, and leaves the items so
 abbrev pub IsDone : Profile → List (List ℕ × Item) → List (List ℕ × Item) → Deed → Circumstances
     → Reply → Type 0

@@ -2,6 +2,7 @@ pub mod JudgingChecker
 pub mod JudgingDeeds
 pub mod JudgingEntries
 pub mod JudgingLine
+pub mod JudgingObjections
 pub mod ReadingAnswers
 pub mod ReadingText
 pub mod ReadingWords

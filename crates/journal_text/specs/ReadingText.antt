@@ -106,6 +106,18 @@ reading_waiting old = record old { may_feed = true }
 abbrev pub reading_broken : JournalReading → JournalReading
 reading_broken old = record old { held = []; is_broken = true; may_feed = true }
 
+-- the bytes held begin with this line, and the reader is whole
+abbrev pub BeginsWith : List ℕ → JournalReading → Type 0
+BeginsWith words r = IsFalse r.is_broken × ((rest : List ℕ) × SplitsAt 10 r.held words rest)
+
+-- The bytes held begin with the line of the entry, in the profile of the first line, which was
+-- taken before.
+pub record BeginsWithEntry (e : Entry) (r : JournalReading) : Type 0 where
+  pub profile : Profile
+  pub started : r.begun ≡ Some profile
+  pub fits : EntryFits profile e
+  pub begins : BeginsWith (entry_words profile e) r
+
 -- The line was taken from the front of the bytes held, and the first line has this profile.
 pub record TakesLine (profile : Profile) (words : List ℕ) (old new : JournalReading) : Type 0 where
   pub held : old.held ≡ ended_line words ++ new.held

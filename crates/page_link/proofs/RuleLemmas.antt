@@ -1,5 +1,4 @@
--- What a visit's rule never does: it tells no lost link where none was lost, and lets no page run
--- that has ended.
+-- What a visit's rule never does: it tells no lost link where none was lost.
 use Rattle.std.proofs.Common.{◌≡◌, ℕ, List, [], ◌∷◌, ◌++◌, Bool, true, false, refl, sym, ◌∙◌, ap}
 use Rattle.std.specs.Prelude.{reverse, Option, Some, None, ◌||◌, if◌then◌else◌}
 use Rattle.std.proofs.lemmas.List.{reverse-append}
@@ -21,12 +20,6 @@ reverse-cons : (event : Event) (past : List Event)
     → reverse (event ∷ past) ≡ reverse past ++ event ∷ []
 reverse-cons event past = reverse-append (event ∷ []) past
 
-has_ended-append : (xs ys : List Event) → has_ended (xs ++ ys) ≡ (has_ended xs || has_ended ys)
-has_ended-append [] ys = refl
-has_ended-append (heard t request answer ∷ xs) ys = has_ended-append xs ys
-has_ended-append (ended ending ∷ xs) ys = refl
-has_ended-append (lost ∷ xs) ys = has_ended-append xs ys
-
 pub has_lost-append : (xs ys : List Event) → has_lost (xs ++ ys) ≡ (has_lost xs || has_lost ys)
 has_lost-append [] ys = refl
 has_lost-append (heard t request answer ∷ xs) ys = has_lost-append xs ys
@@ -40,23 +33,6 @@ or-false false = refl
 or-true : (b : Bool) → (b || true) ≡ true
 or-true true = refl
 or-true false = refl
-
-pub has_ended-push : (past : List Event) (event : Event)
-    → has_ended (past ++ event ∷ []) ≡ (has_ended past || has_ended (event ∷ []))
-has_ended-push past event = has_ended-append past (event ∷ [])
-
-has_ended-reverse : (past : List Event) → has_ended (reverse past) ≡ has_ended past
-has_ended-reverse [] = refl
-has_ended-reverse (heard t request answer ∷ past) =
-    ap has_ended (reverse-cons (heard t request answer) past)
-    ∙ has_ended-append (reverse past) (heard t request answer ∷ [])
-    ∙ or-false (has_ended (reverse past)) ∙ has_ended-reverse past
-has_ended-reverse (ended ending ∷ past) =
-    ap has_ended (reverse-cons (ended ending) past)
-    ∙ has_ended-append (reverse past) (ended ending ∷ []) ∙ or-true (has_ended (reverse past))
-has_ended-reverse (lost ∷ past) =
-    ap has_ended (reverse-cons lost past) ∙ has_ended-append (reverse past) (lost ∷ [])
-    ∙ or-false (has_ended (reverse past)) ∙ has_ended-reverse past
 
 has_lost-reverse : (past : List Event) → has_lost (reverse past) ≡ has_lost past
 has_lost-reverse [] = refl
@@ -157,40 +133,3 @@ no_fault terms past t linked acts =
     let tells = act-no_fault terms (reverse past) t (has_lost-reverse past ∙ linked) in
     let both : true ≡ false = sym fault-is ∙ ap is_fault (sym acts) ∙ tells in
     cc
-
--- ---- no page that ended runs
-
-loss-no_run : (action : Action) → IsToRun (after_loss action) → ⊥
-loss-no_run (send r) runs = runs
-loss-no_run (wait_until moment) runs = runs
-loss-no_run (run content first) runs = runs
-loss-no_run (over outcome) runs = runs
-
-end-no_run : (answer : Heard) → IsToRun (after_end answer) → ⊥
-end-no_run (Reply done_reply) runs = runs
-end-no_run (Reply Missing) runs = runs
-end-no_run (Reply (Locked cookie age since)) runs = runs
-end-no_run answer runs = runs
-
-at_end-no_run : (terms : VisitTerms) (ask : Option Ask) → IsToRun (at_end terms ask) → ⊥
-at_end-no_run terms None runs = runs
-at_end-no_run terms (Some ask) runs = runs
-
-act-no_run : (terms : VisitTerms) (past : List Event) (t : ℕ) → has_ended past ≡ true
-    → IsToRun (act_after terms past t) → ⊥
-act-no_run terms [] t is_ended runs = cc
-act-no_run terms (heard u request answer ∷ past) t is_ended runs =
-    end-no_run answer (rw is_ended at runs)
-act-no_run terms (ended ending ∷ past) t is_ended runs =
-    at_end-no_run terms (ending_ask terms.need (own_cookie past) ending) runs
-act-no_run terms (lost ∷ past) t is_ended runs = loss-no_run (act_after terms past t) runs
-
--- a page that runs has not ended
-pub runs-unended : (terms : VisitTerms) (past : List Event) (t : ℕ) → IsToRun (act_of terms past t)
-    → has_ended past ≡ false
-runs-unended terms past t runs = by_cases (has_ended past) refl
-  where
-    by_cases : (b : Bool) → has_ended past ≡ b → has_ended past ≡ false
-    by_cases true is_ended =
-        absurd (act-no_run terms (reverse past) t (has_ended-reverse past ∙ is_ended) runs)
-    by_cases false unended = unended

@@ -17,15 +17,16 @@ use Rattle.visit_core.specs.declared.outcome.Outcome.TheVariants.{Done, LostLock
 use Rattle.visit_core.specs.Acts.{Action, send, wait_until, over, IsToRun}
 use Rattle.visit_core.specs.VisitRule.{Event, heard, ended, lost, act_of, act_after, after_loss, has_ended}
 use Rattle.visit_core.specs.Stages.{VisitState, HasPast, steps_left}
-use Rattle.visit_core.specs.Terms.{VisitTerms, EndingFits, HeardFits}
+use Rattle.visit_core.specs.Terms.{VisitTerms, EndingFits, HeardFits, kept_ending}
 use Rattle.page_link.specs.declared.exchange.Break.TheVariants as breaks
 use Rattle.page_link.specs.declared.visit_end.VisitEnd.TheVariants as ends
-use Rattle.page_link.specs.Exchanges.{VisitIsUnderway, MayTurn, Asks, AsksInVain, kept_ending}
+use Rattle.page_link.specs.Exchanges.{VisitIsUnderway, MayTurn, Asks, AsksInVain}
 use Rattle.page_link.specs.Links.{Exchanges, KeepsPauses}
 use Rattle.page_link.specs.VisitTurns.{VisitTurn, asked, paused, ran, heard_of, events_of, past_of, texts_of, answers_of, has_lost}
 use Rattle.page_link.specs.Visits.{Scene, IsNew, IsVisit, SentOver, loss_of_outcome}
 use Rattle.page_link.proofs.LinkLemmas.{Exchanges-nil, KeepsPauses-nil, KeepsPauses-same}
-use Rattle.page_link.proofs.RuleLemmas.{has_ended-push, has_lost-append}
+use Rattle.visit_core.proofs.EventLemmas.{has_ended-append}
+use Rattle.page_link.proofs.RuleLemmas.{has_lost-append}
 use Rattle.page_link.proofs.VisitLemmas.{goes_on, ends_so, GaveMoments-nil}
 
 -- ---- what is heard
@@ -168,7 +169,7 @@ module _ (page : Ending) (before : Scene) (visit visit' : VisitState)
           steps = λ u. (0, omega (arith, steps 0 u));
           kept_is =
               ap (λ b. kept_ending b page)
-              (sym (has_ended-push (past_of page run.turns) (ended page)
+              (sym (has_ended-append (past_of page run.turns) (ended page ∷ [])
               ∙ or-true (has_ended (past_of page run.turns))));
         })
 
@@ -208,8 +209,8 @@ module _ (page : Ending) (before : Scene) (visit visit' : VisitState)
           steps = λ w. (t, omega (arith, steps w));
           kept_is = run.kept_is
               ∙ ap (λ b. kept_ending b page)
-              (sym (has_ended-push (past_of page run.turns)
-              (heard t request (heard_of answered.answer))
+              (sym (has_ended-append (past_of page run.turns)
+              (heard t request (heard_of answered.answer) ∷ [])
               ∙ or-false (has_ended (past_of page run.turns))));
         })
 

@@ -16,11 +16,11 @@ use Rattle.visit_core.specs.declared.outcome.Outcome.TheVariants.{LinkFault}
 use Rattle.visit_core.specs.Acts.{over}
 use Rattle.visit_core.specs.VisitRule.{Event, act_of, has_ended, IsLawful, EachFollows}
 use Rattle.visit_core.specs.Stages.{HasPast, steps_left}
-use Rattle.visit_core.specs.Terms.{VisitTerms, most_requests}
+use Rattle.visit_core.specs.Terms.{VisitTerms, kept_ending, most_requests}
 use Rattle.visit_core.proofs.ReleaseLemmas.{releases}
 use Rattle.page_link.specs.declared.visit_end.VisitEnd.{VisitEnd}
 use Rattle.page_link.specs.declared.visit_end.VisitEnd.TheVariants as ends
-use Rattle.page_link.specs.Exchanges.{VisitIsUnderway, kept_ending}
+use Rattle.page_link.specs.Exchanges.{VisitIsUnderway}
 use Rattle.page_link.specs.Links.{Exchanges, KeepsPauses}
 use Rattle.page_link.specs.VisitTurns.{VisitTurn, moment_of, events_of, turn_text, answer_heard, pause_of, past_of, texts_of, answers_of, pauses_of, GaveMoments}
 use Rattle.page_link.specs.Visits.{Scene, FollowsVisitRule, AllFollow, IsVisit, ForcesOldLocks, IsBadRest, AreAllReplies, SentAs, loss_of, IfVisitOver, TellsReplies, EndsWell}

@@ -1,5 +1,5 @@
 -- Inside a visit: one request with its answer, and where a visit stands between two turns.
-use Rattle.std.specs.Prelude.{◌≡◌, ℕ, ◌+◌, ◌≤◌, List, [], ◌++◌, length, map, Option, Some, None, Bool, true, false, IfSome, IsSome, ⊤}
+use Rattle.std.specs.Prelude.{◌≡◌, ℕ, ◌+◌, ◌≤◌, List, [], ◌++◌, length, map, Option, false, IfSome, IsSome, ⊤}
 use Rattle.asp_messages.specs.ReplySpelling.{StreamAnswer, SpellsReply}
 use Rattle.asp_messages.specs.Stream.{Spelled}
 use Rattle.message_framing.specs.ReaderState.{ReaderState}
@@ -7,7 +7,7 @@ use Rattle.visit_core.specs.declared.act.Ending.{Ending}
 use Rattle.visit_core.specs.declared.act.Heard.{Heard}
 use Rattle.visit_core.specs.VisitRule.{Event, has_ended}
 use Rattle.visit_core.specs.Stages.{VisitState, HasPast, steps_left}
-use Rattle.visit_core.specs.Terms.{EndingFits, most_requests}
+use Rattle.visit_core.specs.Terms.{EndingFits, kept_ending, most_requests}
 use Rattle.page_link.specs.declared.visit_end.VisitEnd.{VisitEnd}
 use Rattle.page_link.specs.declared.exchange.Break.{Break}
 use Rattle.page_link.specs.declared.exchange.Break.TheVariants as breaks
@@ -67,11 +67,6 @@ pub record IsFed (old new : ReaderState) (received : List ℕ) : Type 0 where
   pub whole : new.is_broken ≡ false
 
 -- ---- between two turns
-
--- the ending is kept until the page ended
-abbrev pub kept_ending : Bool → Ending → Option Ending
-kept_ending true ending = None
-kept_ending false ending = Some ending
 
 -- A visit whose link was not lost; the ending is kept until its page ended.
 pub record MayTurn (visit : VisitState) (kept : Option Ending) : Type 0 where

@@ -11,7 +11,7 @@ use Rattle.session_machine.specs.declared.entry.Entry.{Entry}
 use Rattle.session_machine.specs.declared.item.Item.{Item}
 use Rattle.shard_core.specs.ShardStands.{TellsAfter}
 use Rattle.session_machine.specs.Profiles.{newest}
-use Rattle.session_machine.specs.History.{nothing, IsLegal}
+use Rattle.session_machine.specs.History.{IsLegal}
 use Rattle.lock_laws.specs.Laws.{ToldLock, IsInForceFor, is_content_ask}
 use Rattle.lock_laws.proofs.WayLemmas.{lock_in_the_way}
 use Rattle.visit_core.specs.declared.visit_terms.Need.{Need}
@@ -21,8 +21,9 @@ use Rattle.visit_core.specs.VisitRule.{Event, heard, ask_for, IsLawful, MeetsOld
 use Rattle.visit_core.specs.Terms.{VisitTerms}
 use Rattle.visit_core.proofs.ReleaseLemmas.{releases}
 use Rattle.keeper.specs.declared.keeping.Keeper.{Ghosts}
+use Rattle.plain_desk.specs.Openings.{Opening}
 use Rattle.page_script.specs.declared.script.Script.{Script}
-use Rattle.page_script.specs.World.{Page, WorldTurn, World, history, entry_of_turn, event_of, turns_of, is_heard, IsLawfulPage, IsLawfulWorld, MetOldLock, PagesForceOldLocks}
+use Rattle.page_script.specs.World.{PageInWorld, WorldTurn, World, history, entry_of_turn, event_of, page_in, turns_of, is_heard, IsLawfulPage, IsLawfulWorld, MetOldLock, PagesForceOldLocks}
 use Rattle.page_script.specs.ScriptStands.{PagesStand, ScriptStands, IfTold, IfTells, keeper_of}
 use Rattle.page_script.proofs.PlaceLemmas.{live-at}
 
@@ -91,22 +92,23 @@ content-ask ReadOnly apart = refl
 content-ask Off apart = absurd (apart refl)
 
 -- the last answer of a page that met an old lock, at its place
-module _ (turns : List WorldTurn) (number : ℕ) (page : Page) (cookie : ℕ)
-    (legal : IsLegal nothing 0 (history turns)) (page_lawful : IsLawfulPage turns number page)
-    (met : MeetsOldLock page.terms page.past cookie)
+module _ (at : PageInWorld) (cookie : ℕ)
+    (legal : IsLegal at.opening.items at.opening.count (history at.turns))
+    (page_lawful : IsLawfulPage at.turns at.number at.page)
+    (met : MeetsOldLock at.page.terms at.page.past cookie)
   where
     abbrev request : Request
-    request = record { key = page.terms.key; ask = ask_for page.terms.need }
+    request = record { key = at.page.terms.key; ask = ask_for at.page.terms.need }
 
     abbrev event : Event
     event = heard met.moment request (Reply (Locked cookie met.age met.since))
 
-    heard-last : map event_of (turns_of number turns) ≡ filter is_heard met.earlier ++ event ∷ []
+    heard-last : map event_of (turns_of at.number at.turns) ≡ filter is_heard met.earlier ++ event ∷ []
     heard-last = sym page_lawful.own ∙ ap (filter is_heard) met.last
         ∙ filter-append is_heard met.earlier (event ∷ [])
 
-    place : IsLast number turns event
-    place = last_turn number turns (filter is_heard met.earlier) event heard-last
+    place : IsLast at.number at.turns event
+    place = last_turn at.number at.turns (filter is_heard met.earlier) event heard-last
 
     same_moment : place.turn.moment ≡ met.moment
     same_moment = cc place.answer
@@ -120,22 +122,23 @@ module _ (turns : List WorldTurn) (number : ℕ) (page : Page) (cookie : ℕ)
     abbrev told : ToldLock
     told = record { cookie = cookie; seconds = met.age }
 
-    in_force : IsInForceFor newest nothing 0 page.terms.key told (history place.before)
-        place.turn.moment
+    in_force : IsInForceFor newest at.opening.items at.opening.count at.page.terms.key told
+        (history place.before) place.turn.moment
     in_force =
-        lock_in_the_way newest nothing 0 (history turns) legal page.terms.key (history place.before)
+        lock_in_the_way newest at.opening.items at.opening.count (history at.turns) legal
+        at.page.terms.key (history place.before)
         (entry_of_turn place.turn) cookie met.age met.since
         (record {
           behind = history place.behind;
           place = ap history place.place ∙ map-append entry_of_turn place.before
               (place.turn ∷ place.behind);
-          on_key = (bytes_eq-Decides page.terms.key place.turn.request.key).1
+          on_key = (bytes_eq-Decides at.page.terms.key place.turn.request.key).1
               (sym (ap (λ (r : Request). r.key) same_request));
         })
         (ap (λ (r : Request). is_content_ask r.ask) same_request
-        ∙ content-ask page.terms.need met.content) same_reply
+        ∙ content-ask at.page.terms.need met.content) same_reply
 
-    met-old : MetOldLock turns number page cookie
+    met-old : MetOldLock at cookie
     met-old = record {
       met = met;
       before = place.before;
@@ -145,21 +148,23 @@ module _ (turns : List WorldTurn) (number : ℕ) (page : Page) (cookie : ℕ)
       own = place.own;
       last = place.last;
       answer = place.answer;
-      in_force = subst (IsInForceFor newest nothing 0 page.terms.key told (history place.before))
-          same_moment in_force;
+      in_force = subst (IsInForceFor newest at.opening.items at.opening.count at.page.terms.key
+          told (history place.before)) same_moment in_force;
     }
 
-pub forces : (world : World) → IsLegal nothing 0 (history world.turns) → IsLawfulWorld world
+pub forces : (world : World)
+    → IsLegal world.opening.items world.opening.count (history world.turns) → IsLawfulWorld world
     → PagesForceOldLocks world
 forces world legal lawful before page behind t cookie place not_ended acts =
     let page_lawful = lawful before page behind place in
-    met-old world.turns (length before) page cookie legal page_lawful
+    met-old (page_in world (length before) page) cookie legal page_lawful
     (releases page.terms page.past t cookie page_lawful.lawful not_ended acts)
 
-if-legal : (list : List Entry) (told : Option (List ℕ → Option Item)) (P : Type 0)
-    → TellsAfter nothing 0 list told → (IsLegal nothing 0 list → P) → IfTold told P
-if-legal list None P tells f = tt
-if-legal list (Some items) P tells f = f tells.0
+if-legal : (opening : Opening) (list : List Entry) (told : Option (List ℕ → Option Item))
+    (P : Type 0) → TellsAfter opening.items opening.count list told
+    → (IsLegal opening.items opening.count list → P) → IfTold told P
+if-legal opening list None P tells f = tt
+if-legal opening list (Some items) P tells f = f tells.0
 
 module _ {K : Type 0} (G : Ghosts K) (script : Script K) (world : World)
     (stands : ScriptStands G script world)
@@ -176,5 +181,6 @@ module _ {K : Type 0} (G : Ghosts K) (script : Script K) (world : World)
         }
 
     pub forced : IfTells G script (PagesForceOldLocks world)
-    forced = if-legal (history world.turns) (G.told (keeper_of script)) (PagesForceOldLocks world)
+    forced = if-legal world.opening (history world.turns) (G.told (keeper_of script))
+        (PagesForceOldLocks world)
         stands.desk.stands.stands.told_is (λ legal. forces world legal lawful)

@@ -1,6 +1,6 @@
 -- The pages of a script and those of the world, place by place.
 use Rattle.std.proofs.Common.{zero, suc, ◌≡◌, ◌≢◌, ℕ, ◌+◌, ◌<◌, false, cond, List, [], ◌∷◌, ◌++◌, length, get_or, set, refl, sym, ap, ◌∙◌, arith, subst, append-nil}
-use Rattle.std.specs.Prelude.{◌==◌, map}
+use Rattle.std.specs.Prelude.{◌==◌, ◌↔◌, map, IsTrue, MatchOption, Option, Some, None, is_some}
 use Rattle.std.specs.List.{AllByRecursion}
 use Rattle.std.proofs.lemmas.Bool.Decides.{nat_tests}
 use Rattle.std.proofs.lemmas.List.Elements.{filter-append}
@@ -228,3 +228,20 @@ pub place-used : (lives : List ScriptPage) (name : List ℕ) (n : ℕ) → IsInd
     → IsUnused lives name → ⊥
 place-used lives name n place unused = unused-at lives name n place.page place.inside unused
     place.there place.named
+
+no_truth : {P : Type 0} → IsTrue false → P
+no_truth so = cc
+
+-- a name at a place, where there is one, is that of a page of the world
+pub place-has : (turns : List WorldTurn) (lives : List ScriptPage) (pages : List Page)
+    (name : List ℕ) (place : Option ℕ) → PagesStand turns 0 lives pages
+    → MatchOption place (IsUnused lives name) (IsIndexOf lives name)
+    → IsTrue (is_some place) ↔ HasName pages name
+place-has turns lives pages name None stand unused = (
+  λ test. no_truth test,
+  λ has. absurd (unused-no_name turns 0 lives pages name stand unused has),
+)
+place-has turns lives pages name (Some n) stand place = (
+  λ test. place-has_name turns lives pages name n stand place,
+  λ has. refl,
+)

@@ -55,9 +55,9 @@ limits_of : (text : List ℕ) (limits : Limits) → IsScriptLine text (lines.Lim
     → IsLimits (drop 7 text) limits
 limits_of text limits is = record { spelled = ap (drop 7) (sym is.spelled); fits = is.fits }
 
-page_of : (text : List ℕ) (page : PageLine) → IsScriptLine text (lines.Page page)
+page_in : (text : List ℕ) (page : PageLine) → IsScriptLine text (lines.Page page)
     → IsPage (drop 5 text) page
-page_of text page is = record { spelled = ap (drop 5) (sym is.spelled); fits = is.fits }
+page_in text page is = record { spelled = ap (drop 5) (sym is.spelled); fits = is.fits }
 
 step_of : (text : List ℕ) (moment : ℕ) (name : List ℕ) → IsScriptLine text (lines.Step moment name)
     → IsStep (drop 5 text) (moment, name)
@@ -72,7 +72,7 @@ pub one_line_each : (text : List ℕ) (a b : Line) → IsScriptLine text a → I
 one_line_each text (lines.Limits a) (lines.Limits b) is other =
     ap lines.Limits (one_limits (drop 7 text) a b (limits_of text a is) (limits_of text b other))
 one_line_each text (lines.Page a) (lines.Page b) is other =
-    ap lines.Page (one_page (drop 5 text) a b (page_of text a is) (page_of text b other))
+    ap lines.Page (one_page (drop 5 text) a b (page_in text a is) (page_in text b other))
 one_line_each text (lines.Step m a) (lines.Step n b) is other =
     let same = one_step (drop 5 text) (m, a) (n, b) (step_of text m a is)
     (step_of text n b other) in

@@ -7,7 +7,8 @@ use Rattle.std.proofs.lemmas.List.Elements.{filter-append}
 use Rattle.asp_messages.specs.declared.request.Ask.{Ask}
 use Rattle.asp_messages.specs.declared.request.Ask.TheVariants.{Read, Acquire, Release, Write, Remove, Reset}
 use Rattle.asp_messages.specs.declared.reply.Reply.TheVariants.{Found, Done as done_reply, Locked, Missing}
-use Rattle.session_machine.specs.History.{nothing, IsLegal}
+use Rattle.plain_desk.specs.Openings.{Opening}
+use Rattle.session_machine.specs.History.{IsLegal}
 use Rattle.session_machine.specs.Profiles.{newest}
 use Rattle.lock_laws.proofs.LegalLemmas.{IsLegal-front}
 use Rattle.visit_core.specs.declared.act.Heard.{Heard}
@@ -19,7 +20,7 @@ use Rattle.visit_core.specs.Terms.{VisitTerms, EndingFits}
 use Rattle.page_script.specs.declared.line.Line.{Line}
 use Rattle.page_script.specs.declared.line.Line.TheVariants as lines
 use Rattle.page_script.specs.Lines.{LineFits}
-use Rattle.page_script.specs.World.{Page, WorldTurn, World, Added, history, entry_of_turn, event_of, Performs, with_events, new_page, WorldStep, Leads, IsWorldRun, turns_of, is_heard, IsLawfulWorld, PagesForceOldLocks}
+use Rattle.page_script.specs.World.{Page, PageInWorld, WorldTurn, World, Added, history, entry_of_turn, event_of, Performs, page_in, with_events, new_page, WorldStep, Leads, IsWorldRun, turns_of, is_heard, world_from, IsLawfulWorld, PagesForceOldLocks}
 use Rattle.page_script.proofs.StepLemmas.{turns_of-own, end-no_run, last-no_run, loss-no_run}
 use Rattle.page_script.proofs.PlaceLemmas.{All-append, All-more, turns_of-none, turns_of-other}
 use Rattle.page_script.proofs.WorldLemmas.{asked-own}
@@ -209,47 +210,48 @@ unchanged-sound number turns page events asked no_event no_turn sound = record {
 }
 
 -- a page that acts stays sound
-acts-sound : (action : Action) (t number : ℕ) (turns : List WorldTurn) (page : Page)
-    (adds : Added) → act_of page.terms page.past t ≡ action
-    → Performs action t number page.ending turns adds → IsSound turns number page
-    → IsSound (turns ++ adds.asked) number (with_events page adds.events)
-acts-sound (send request) t number turns page adds acting acts sound =
-    subst (λ ts. IsSound (turns ++ ts) number (with_events page adds.events)) (sym acts.3)
-    (subst (λ es. IsSound (turns ++ acts.0 ∷ []) number (with_events page es)) (sym acts.2)
+acts-sound : (action : Action) (t : ℕ) (at : PageInWorld) (adds : Added)
+    → act_of at.page.terms at.page.past t ≡ action → Performs action t at adds
+    → IsSound at.turns at.number at.page
+    → IsSound (at.turns ++ adds.asked) at.number (with_events at.page adds.events)
+acts-sound (send request) t at adds acting acts sound =
+    subst (λ ts. IsSound (at.turns ++ ts) at.number (with_events at.page adds.events)) (sym acts.3)
+    (subst (λ es. IsSound (at.turns ++ acts.0 ∷ []) at.number (with_events at.page es))
+    (sym acts.2)
     (record {
       lawful =
-          IsLawful-push page.terms page.past (event_of acts.0) (
+          IsLawful-push at.page.terms at.page.past (event_of acts.0) (
             (
-              ap (act_of page.terms page.past) acts.1.moment ∙ acting
+              ap (act_of at.page.terms at.page.past) acts.1.moment ∙ acting
                   ∙ ap (λ r. send r) (sym acts.1.request),
               acts.1.fits,
             ),
             sound.lawful,
           );
       own =
-          filter-append is_heard page.past (event_of acts.0 ∷ [])
+          filter-append is_heard at.page.past (event_of acts.0 ∷ [])
           ∙ ap (λ es. es ++ event_of acts.0 ∷ []) sound.own
-          ∙ sym (map-append event_of (turns_of number turns) (acts.0 ∷ []))
-          ∙ ap (map event_of) (sym (turns_of-own number turns acts.0 acts.1.page));
+          ∙ sym (map-append event_of (turns_of at.number at.turns) (acts.0 ∷ []))
+          ∙ ap (map event_of) (sym (turns_of-own at.number at.turns acts.0 acts.1.page));
       fits = sound.fits;
     }))
-acts-sound (wait_until moment) t number turns page adds acting acts sound =
-    unchanged-sound number turns page adds.events adds.asked acts.0 acts.1 sound
-acts-sound (run content first) t number turns page adds acting acts sound =
-    subst (λ ts. IsSound (turns ++ ts) number (with_events page adds.events)) (sym acts.1)
-    (subst (λ es. IsSound (turns ++ []) number (with_events page es)) (sym acts.0)
-    (subst (λ ts. IsSound ts number (with_events page (ended page.ending ∷ [])))
-    (sym (append-nil turns)) (record {
-      lawful = IsLawful-push page.terms page.past (ended page.ending) (
-        (runs-always page.terms (reverse page.past) t content first acting, sound.fits),
+acts-sound (wait_until moment) t at adds acting acts sound =
+    unchanged-sound at.number at.turns at.page adds.events adds.asked acts.0 acts.1 sound
+acts-sound (run content first) t at adds acting acts sound =
+    subst (λ ts. IsSound (at.turns ++ ts) at.number (with_events at.page adds.events)) (sym acts.1)
+    (subst (λ es. IsSound (at.turns ++ []) at.number (with_events at.page es)) (sym acts.0)
+    (subst (λ ts. IsSound ts at.number (with_events at.page (ended at.page.ending ∷ [])))
+    (sym (append-nil at.turns)) (record {
+      lawful = IsLawful-push at.page.terms at.page.past (ended at.page.ending) (
+        (runs-always at.page.terms (reverse at.page.past) t content first acting, sound.fits),
         sound.lawful,
       );
-      own = filter-append is_heard page.past (ended page.ending ∷ [])
-          ∙ append-nil (filter is_heard page.past) ∙ sound.own;
+      own = filter-append is_heard at.page.past (ended at.page.ending ∷ [])
+          ∙ append-nil (filter is_heard at.page.past) ∙ sound.own;
       fits = sound.fits;
     })))
-acts-sound (over outcome) t number turns page adds acting acts sound =
-    unchanged-sound number turns page adds.events adds.asked acts.0 acts.1 sound
+acts-sound (over outcome) t at adds acting acts sound =
+    unchanged-sound at.number at.turns at.page adds.events adds.asked acts.0 acts.1 sound
 
 -- The pages of the world are sound, and each turn is that of one of them.
 record IsSoundWorld (world : World) : Type 0 where
@@ -285,8 +287,8 @@ step-sound world world' (lines.Step t name) out fits step sound =
       pages =
           sound-set world.turns step.asked 0 (length step.before) step.before step.page
           (with_events step.page step.events) step.behind there (omega arith) own
-          (acts-sound (act_of step.page.terms step.page.past t) t (length step.before) world.turns
-          step.page (record { events = step.events; asked = step.asked; words = step.words }) refl
+          (acts-sound (act_of step.page.terms step.page.past t) t
+          (page_in world (length step.before) step.page) (record { events = step.events; asked = step.asked; words = step.words }) refl
           step.acts
           (sound-at world.turns 0 (length step.before) step.before step.page step.behind there
           (omega arith)));
@@ -305,8 +307,8 @@ step-sound world world' (lines.Step t name) out fits step sound =
     there = subst (AreSound world.turns 0) step.place sound.pages
 
     own : AllByRecursion (λ (turn : WorldTurn). turn.page ≡ length step.before) step.asked
-    own = asked-own (act_of step.page.terms step.page.past t) t (length step.before)
-        step.page.ending world.turns
+    own = asked-own (act_of step.page.terms step.page.past t) t
+        (page_in world (length step.before) step.page)
         (record { events = step.events; asked = step.asked; words = step.words }) step.acts
 
     counted : length world.pages ≡ length step.before + length (step.page ∷ step.behind)
@@ -328,9 +330,9 @@ leads-sound world world' (line ∷ script) out fits leads sound =
     (step-sound world leads.0 line leads.1 fits.0 leads.3 sound)
 
 -- the pages of a run are lawful
-pub run-lawful : (script : List Line) (world : World) (out : List ℕ)
-    → AllByRecursion LineFits script → IsWorldRun script world out → IsLawfulWorld world
-run-lawful script world out fits runs before page behind place =
+pub run-lawful : (opening : Opening) (script : List Line) (world : World) (out : List ℕ)
+    → AllByRecursion LineFits script → IsWorldRun opening script world out → IsLawfulWorld world
+run-lawful opening script world out fits runs before page behind place =
     let sound = leads-sound _ world script out fits runs (record { pages = tt; numbered = tt }) in
     let one : IsSound world.turns (length before) page =
     sound-at world.turns 0 (length before) before page behind
@@ -364,15 +366,34 @@ leads-turns world world' (line ∷ script) out leads =
           ∙ append_assoc world.turns one.0 rest.0,
     )
 
+-- and begins as it did
+step-opening : (world world' : World) (line : Line) (out : List ℕ) → WorldStep world line world' out
+    → world'.opening ≡ world.opening
+step-opening world world' (lines.Limits limits) out step = ap (λ (w : World). w.opening) step.0
+step-opening world world' (lines.Page page) out step = ap (λ (w : World). w.opening) step.1
+step-opening world world' (lines.Step t name) out step = ap (λ (w : World). w.opening) step.after
+
+pub leads-opening : (world world' : World) (script : List Line) (out : List ℕ)
+    → Leads world script world' out → world'.opening ≡ world.opening
+leads-opening world world' [] out leads = ap (λ (w : World). w.opening) leads.0
+leads-opening world world' (line ∷ script) out leads =
+    leads-opening leads.0 world' script leads.2 leads.4
+    ∙ step-opening world leads.0 line leads.1 leads.3
+
 -- in each world of a run whose history is legal, a release by force is of a lock that is in force,
 -- and old
-pub run-forces : (script rest : List Line) (world last : World) (out more : List ℕ)
-    → AllByRecursion LineFits script → IsWorldRun script world out → Leads world rest last more
-    → IsLegal nothing 0 (history last.turns) → PagesForceOldLocks world
-run-forces script rest world last out more fits runs leads legal =
+pub run-forces : (opening : Opening) (script rest : List Line) (world last : World)
+    (out more : List ℕ) → AllByRecursion LineFits script → IsWorldRun opening script world out
+    → Leads world rest last more → IsLegal opening.items opening.count (history last.turns)
+    → PagesForceOldLocks world
+run-forces opening script rest world last out more fits runs leads legal =
     let grown = leads-turns world last rest more leads in
+    let same = leads-opening (world_from opening) world script out runs in
     forces world
-    (IsLegal-front newest nothing 0 (history world.turns) (history grown.0)
-    (subst (IsLegal nothing 0) (ap history grown.1 ∙ map-append entry_of_turn world.turns grown.0)
-    legal))
-    (run-lawful script world out fits runs)
+    (IsLegal-front newest world.opening.items world.opening.count (history world.turns)
+    (history grown.0)
+    (subst (λ (o : Opening). IsLegal o.items o.count (history world.turns ++ history grown.0))
+    (sym same)
+    (subst (IsLegal opening.items opening.count)
+    (ap history grown.1 ∙ map-append entry_of_turn world.turns grown.0) legal)))
+    (run-lawful opening script world out fits runs)

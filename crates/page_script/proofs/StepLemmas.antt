@@ -18,8 +18,9 @@ use Rattle.visit_core.specs.VisitRule.{Event, heard, ended, lost, act_of, act_af
 use Rattle.visit_core.specs.Stages.{HasPast}
 use Rattle.visit_core.specs.Terms.{VisitTerms}
 use Rattle.page_script.specs.declared.script_page.ScriptPage.{ScriptPage}
-use Rattle.page_script.specs.World.{Page, WorldTurn, Added, event_of, Performs, turn_words, run_words, with_events, turns_of, is_heard}
+use Rattle.page_script.specs.World.{Page, PageInWorld, WorldTurn, Added, event_of, Performs, turn_words, run_words, with_events, turns_of, is_heard}
 use Rattle.plain_desk.specs.DeskStands.{DeskState}
+use Rattle.plain_desk.specs.Openings.{Opening}
 use Rattle.page_script.specs.ScriptStands.{DeskHasTurns, turn_at, PageAtDesk, PageStands, EachSteps}
 
 -- ---- results
@@ -148,8 +149,8 @@ module _ (CanCount : ℕ → Type 0) (t : ℕ) (live : ScriptPage)
         → ((words : List ℕ) → P words → Q words)
         → EachSteps CanCount t (at_desk live desk) (at_desk live' desk') P
         → EachSteps CanCount t (at_desk live desk) (at_desk live' desk') Q
-    EachSteps-prints live' desk desk' P Q more each number turns page stands desk_stands =
-        let step = each number turns page stands desk_stands in record {
+    EachSteps-prints live' desk desk' P Q more each at stands desk_stands =
+        let step = each at stands desk_stands in record {
           events = step.events;
           asked = step.asked;
           words = step.words;
@@ -162,23 +163,23 @@ module _ (CanCount : ℕ → Type 0) (t : ℕ) (live : ScriptPage)
     -- a step that changes nothing
     pub quiet : (desk : DeskState) (action : Action) (words : List ℕ) (Prints : List ℕ → Type 0)
         → ((past : List Event) → HasPast live.visit past → action ≡ act_of live.visit.terms past t)
-        → ((number : ℕ) (ending : Ending) (turns : List WorldTurn)
-        → Performs action t number ending turns (only_words words)) → Prints words
+        → ((at : PageInWorld) → Performs action t at (only_words words)) → Prints words
         → EachSteps CanCount t (at_desk live desk) (at_desk live desk) Prints
-    quiet desk action words Prints act acts prints number turns page stands desk_stands = record {
+    quiet desk action words Prints act acts prints at stands desk_stands = record {
       events = [];
       asked = [];
       words = words;
       acts =
-          subst (λ a. Performs a t number page.ending turns (only_words words))
-          (act page.past stands.past ∙ ap (λ terms. act_of terms page.past t) stands.terms)
-          (acts number page.ending turns);
+          subst (λ a. Performs a t at (only_words words))
+          (act at.page.past stands.past ∙ ap (λ terms. act_of terms at.page.past t) stands.terms)
+          (acts at);
       page_stands =
-          subst (λ p. PageStands (turns ++ []) number live p)
-          (ap (λ past. let p : Page = record page { past = past } in p)
-          (sym (append-nil page.past)))
-          (subst (λ ts. PageStands ts number live page) (sym (append-nil turns)) stands);
-      desk_stands = subst (DeskHasTurns CanCount desk) (sym (append-nil turns)) desk_stands;
+          subst (λ p. PageStands (at.turns ++ []) at.number live p)
+          (ap (λ past. let p : Page = record at.page { past = past } in p)
+          (sym (append-nil at.page.past)))
+          (subst (λ ts. PageStands ts at.number live at.page) (sym (append-nil at.turns)) stands);
+      desk_stands =
+          subst (DeskHasTurns CanCount desk at.opening) (sym (append-nil at.turns)) desk_stands;
       prints = prints;
     }
 
@@ -192,23 +193,28 @@ module _ (CanCount : ℕ → Type 0) (t : ℕ) (live : ScriptPage)
         → act_of live.visit.terms past t ≡ send sent
         → HasPast live'.visit (past ++ heard t sent (Reply reply) ∷ []))
         → live'.name ≡ live.name → live'.ending ≡ live.ending → ReplyFits reply
-        → ((number : ℕ) (turns : List WorldTurn) → DeskHasTurns CanCount desk turns
-        → DeskHasTurns CanCount desk' (turns ++ turn_at number t request turns reply desk'.faults
-        ∷ []))
+        → ((number : ℕ) (opening : Opening) (turns : List WorldTurn)
+        → DeskHasTurns CanCount desk opening turns
+        → DeskHasTurns CanCount desk' opening
+        (turns ++ turn_at number t opening turns (record {
+          request = request;
+          reply = reply;
+          faults = desk'.faults;
+        }) ∷ []))
         → Prints ((ask_spelling request.ask ++ codes " : ") ++ reply_spelling reply)
         → EachSteps CanCount t (at_desk live desk) (at_desk live' desk') Prints
     sent live' desk desk' request reply Prints terms act hears name ending fits answers prints
-        number turns page stands desk_stands = record {
+        at stands desk_stands = record {
           events = event_of turn ∷ [];
           asked = turn ∷ [];
           words = turn_words turn;
           acts =
-              subst (λ a. Performs a t number page.ending turns (record {
+              subst (λ a. Performs a t at (record {
                 events = event_of turn ∷ [];
                 asked = turn ∷ [];
                 words = turn_words turn;
-              })) (sym (act page.past stands.past)
-              ∙ ap (λ terms. act_of terms page.past t) stands.terms) (
+              })) (sym (act at.page.past stands.past)
+              ∙ ap (λ terms. act_of terms at.page.past t) stands.terms) (
                 turn,
                 record { page = refl; moment = refl; request = refl; drawn = refl; fits = fits },
                 refl,
@@ -218,21 +224,22 @@ module _ (CanCount : ℕ → Type 0) (t : ℕ) (live : ScriptPage)
           page_stands = record {
             name = name ∙ stands.name;
             terms = terms ∙ stands.terms;
-            past = hears page.past request stands.past (act page.past stands.past);
-            ending = ending ∙ stands.ending ∙ ap (λ b. cond b None (Some page.ending))
-                (sym (has_ended-push page.past (event_of turn)));
+            past = hears at.page.past request stands.past (act at.page.past stands.past);
+            ending = ending ∙ stands.ending ∙ ap (λ b. cond b None (Some at.page.ending))
+                (sym (has_ended-push at.page.past (event_of turn)));
             own =
-                filter-append is_heard page.past (event_of turn ∷ [])
+                filter-append is_heard at.page.past (event_of turn ∷ [])
                 ∙ ap (λ events. events ++ event_of turn ∷ []) stands.own
-                ∙ sym (map-append event_of (turns_of number turns) (turn ∷ []))
-                ∙ ap (map event_of) (sym (turns_of-own number turns turn refl));
+                ∙ sym (map-append event_of (turns_of at.number at.turns) (turn ∷ []))
+                ∙ ap (map event_of) (sym (turns_of-own at.number at.turns turn refl));
           };
-          desk_stands = answers number turns desk_stands;
+          desk_stands = answers at.number at.opening at.turns desk_stands;
           prints = prints;
         }
       where
         turn : WorldTurn
-        turn = turn_at number t request turns reply desk'.faults
+        turn = turn_at at.number t at.opening at.turns
+            (record { request = request; reply = reply; faults = desk'.faults })
 
     -- a page runs, and its visit is told how it ends
     pub ran : (live' : ScriptPage) (desk : DeskState) (content : Option (List ℕ)) (first : Bool)
@@ -246,22 +253,26 @@ module _ (CanCount : ℕ → Type 0) (t : ℕ) (live : ScriptPage)
         → PageStands turns number live' (with_events page (ended page.ending ∷ [])))
         → Prints (run_words content first)
         → EachSteps CanCount t (at_desk live desk) (at_desk live' desk) Prints
-    ran live' desk content first Prints act ends prints number turns page stands desk_stands =
-        let runs : act_of page.terms page.past t ≡ run content first =
-        sym (act page.past stands.past ∙ ap (λ terms. act_of terms page.past t) stands.terms) in
+    ran live' desk content first Prints act ends prints at stands desk_stands =
+        let runs : act_of at.page.terms at.page.past t ≡ run content first =
+        sym (act at.page.past stands.past ∙ ap (λ terms. act_of terms at.page.past t) stands.terms)
+        in
         record {
-          events = ended page.ending ∷ [];
+          events = ended at.page.ending ∷ [];
           asked = [];
           words = run_words content first;
-          acts = subst (λ a. Performs a t number page.ending turns (record {
-            events = ended page.ending ∷ [];
+          acts = subst (λ a. Performs a t at (record {
+            events = ended at.page.ending ∷ [];
             asked = [];
             words = run_words content first;
           })) (sym runs) (refl, refl, refl);
           page_stands =
-              subst (λ ts. PageStands ts number live' (with_events page (ended page.ending ∷ [])))
-              (sym (append-nil turns)) (ends number turns page content first t stands runs);
-          desk_stands = subst (DeskHasTurns CanCount desk) (sym (append-nil turns)) desk_stands;
+              subst (λ ts. PageStands ts at.number live'
+              (with_events at.page (ended at.page.ending ∷ [])))
+              (sym (append-nil at.turns))
+              (ends at.number at.turns at.page content first t stands runs);
+          desk_stands =
+              subst (DeskHasTurns CanCount desk at.opening) (sym (append-nil at.turns)) desk_stands;
           prints = prints;
         }
 

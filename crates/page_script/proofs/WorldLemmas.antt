@@ -2,7 +2,6 @@
 use Rattle.std.proofs.Common.{◌≡◌, ◌≢◌, ℕ, ◌+◌, ◌<◌, List, [], ◌∷◌, ◌++◌, length, get_or, set, inl, inr, refl, sym, ap, ◌∙◌, arith, subst, append-nil, length-append}
 use Rattle.std.specs.Prelude.{◌⊎◌, ⊤}
 use Rattle.std.specs.List.{AllByRecursion}
-use Rattle.visit_core.specs.declared.act.Ending.{Ending}
 use Rattle.visit_core.specs.declared.visit_terms.Limits.{Limits}
 use Rattle.visit_core.specs.Acts.{Action, send, wait_until, run, over}
 use Rattle.visit_core.specs.VisitRule.{act_of}
@@ -12,23 +11,24 @@ use Rattle.page_script.specs.declared.line.PageLine.{PageLine}
 use Rattle.page_script.specs.declared.script.Script.{Script}
 use Rattle.page_script.specs.declared.script_page.ScriptPage.{ScriptPage}
 use Rattle.page_script.specs.PagePlaces.{IsUnused}
-use Rattle.page_script.specs.World.{Page, WorldTurn, World, Added, Performs, step_line, with_events, turns_of, new_page, most_pages}
+use Rattle.page_script.specs.World.{Page, PageInWorld, WorldTurn, World, Added, Performs, page_in, step_line, with_events, turns_of, new_page, most_pages}
 use Rattle.plain_desk.specs.DeskStands.{desk_state}
 use Rattle.page_script.specs.ScriptStands.{PageAtDesk, PageStands, PagesStand, StepsAtDesk, EachSteps, EachMayStep, Stays, ScriptStands, WorldTakes}
 use Rattle.page_script.proofs.PlaceLemmas.{All-append, All-more, turns_of-none, PagesStand-length, IsFound, found, PagesStand-push, unused-no_name}
 
 -- a step asks only in its own page's name
-pub asked-own : (action : Action) (t number : ℕ) (ending : Ending) (turns : List WorldTurn)
-    (adds : Added) → Performs action t number ending turns adds
-    → AllByRecursion (λ (turn : WorldTurn). turn.page ≡ number) adds.asked
-asked-own (send request) t number ending turns adds acts =
-    subst (AllByRecursion (λ (turn : WorldTurn). turn.page ≡ number)) (sym acts.3) (acts.1.page, tt)
-asked-own (wait_until moment) t number ending turns adds acts =
-    subst (AllByRecursion (λ (turn : WorldTurn). turn.page ≡ number)) (sym acts.1) tt
-asked-own (run content first) t number ending turns adds acts =
-    subst (AllByRecursion (λ (turn : WorldTurn). turn.page ≡ number)) (sym acts.1) tt
-asked-own (over outcome) t number ending turns adds acts =
-    subst (AllByRecursion (λ (turn : WorldTurn). turn.page ≡ number)) (sym acts.1) tt
+pub asked-own : (action : Action) (t : ℕ) (at : PageInWorld) (adds : Added)
+    → Performs action t at adds
+    → AllByRecursion (λ (turn : WorldTurn). turn.page ≡ at.number) adds.asked
+asked-own (send request) t at adds acts =
+    subst (AllByRecursion (λ (turn : WorldTurn). turn.page ≡ at.number)) (sym acts.3)
+    (acts.1.page, tt)
+asked-own (wait_until moment) t at adds acts =
+    subst (AllByRecursion (λ (turn : WorldTurn). turn.page ≡ at.number)) (sym acts.1) tt
+asked-own (run content first) t at adds acts =
+    subst (AllByRecursion (λ (turn : WorldTurn). turn.page ≡ at.number)) (sym acts.1) tt
+asked-own (over outcome) t at adds acts =
+    subst (AllByRecursion (λ (turn : WorldTurn). turn.page ≡ at.number)) (sym acts.1) tt
 
 module _ {K : Type 0} (G : Ghosts K) (script script' : Script K) (world : World)
     (stands : ScriptStands G script world)
@@ -84,12 +84,11 @@ module _ {K : Type 0} (G : Ghosts K) (script script' : Script K) (world : World)
             (λ turn below is. absurd (omega arith)) stands.numbered)
 
     -- limits for the pages to come
-    pub limits-taken : (limits : Limits) (out : List ℕ) → script'.limits ≡ limits
+    pub limits-set : (limits : Limits) → script'.limits ≡ limits
         → script'.pages.items ≡ script.pages.items
         → desk_state G script'.desk ≡ desk_state G script.desk
-        → WorldTakes G script' world (lines.Limits limits)
-        (λ printed. out ≡ out ++ printed)
-    limits-taken limits out is items desk = record {
+        → WorldTakes G script' world (lines.Limits limits) (λ printed. printed ≡ [])
+    limits-set limits is items desk = record {
       world' = record world { limits = limits };
       printed = [];
       step = (refl, refl);
@@ -100,7 +99,7 @@ module _ {K : Type 0} (G : Ghosts K) (script script' : Script K) (world : World)
         numbered = stands.numbered;
         desk = rw desk stands.desk;
       };
-      prints = sym (append-nil out);
+      prints = refl;
     }
 
     -- a step of the page at a place
@@ -121,7 +120,7 @@ module _ {K : Type 0} (G : Ghosts K) (script script' : Script K) (world : World)
             at
 
         step-taken : (P : List ℕ → Type 0) → StepsAtDesk G.can_count t
-            (record { turns = world.turns; number = n; page = there.page })
+            (page_in world n there.page)
             (at_desk live' script') (λ words. P (step_line t live.name words))
             → WorldTakes G script' world (lines.Step t name) P
         step-taken P step = record {
@@ -136,8 +135,8 @@ module _ {K : Type 0} (G : Ghosts K) (script script' : Script K) (world : World)
             events = step.events;
             asked = step.asked;
             words = step.words;
-            acts = subst (λ k. Performs (act_of there.page.terms there.page.past t) t k
-                there.page.ending world.turns
+            acts = subst (λ k. Performs (act_of there.page.terms there.page.past t) t
+                (page_in world k there.page)
                 (record { events = step.events; asked = step.asked; words = step.words }))
                 (sym there.count) step.acts;
             after = refl;
@@ -167,8 +166,8 @@ module _ {K : Type 0} (G : Ghosts K) (script script' : Script K) (world : World)
             after = there.before ++ with_events there.page step.events ∷ there.behind
 
             own : AllByRecursion (λ (turn : WorldTurn). turn.page ≡ n) step.asked
-            own = asked-own (act_of there.page.terms there.page.past t) t n there.page.ending
-                world.turns
+            own = asked-own (act_of there.page.terms there.page.past t) t
+                (page_in world n there.page)
                 (record { events = step.events; asked = step.asked; words = step.words }) step.acts
 
             long : length after ≡ length world.pages
@@ -184,11 +183,12 @@ module _ {K : Type 0} (G : Ghosts K) (script script' : Script K) (world : World)
             → EachSteps G.can_count t (at_desk live script) (at_desk live' script')
             (λ words. P (step_line t live.name words))
             → WorldTakes G script' world (lines.Step t name) P
-        each-taken P each = step-taken P (each n world.turns there.page there.stands stands.desk)
+        each-taken P each = step-taken P
+            (each (page_in world n there.page) there.stands stands.desk)
 
         -- nothing has changed
         step-stayed : Stays G.can_count
-            (record { turns = world.turns; number = n; page = there.page })
+            (page_in world n there.page)
             (at_desk live' script') → ScriptStands G script' world
         step-stayed stays = record {
           limits = limits ∙ stands.limits;
@@ -207,7 +207,7 @@ module _ {K : Type 0} (G : Ghosts K) (script script' : Script K) (world : World)
         pub may-taken : EachMayStep G.can_count t (at_desk live script) (at_desk live' script')
             → ScriptStands G script' world
             ⊎ WorldTakes G script' world (lines.Step t name) (λ printed. ⊤)
-        may-taken each = elim (each n world.turns there.page there.stands stands.desk) [
+        may-taken each = elim (each (page_in world n there.page) there.stands stands.desk) [
           | inl stays ↦ inl (step-stayed stays)
           | inr step ↦ inr (step-taken (λ printed. ⊤) step)
         ]

@@ -4,11 +4,10 @@ use Rattle.std.specs.Prelude.{◌≡◌, ◌⊎◌, ℕ, ◌+◌, ◌<◌, List,
 use Rattle.std.specs.List.{AllByRecursion}
 use Rattle.asp_messages.specs.declared.request.Request.{Request}
 use Rattle.asp_messages.specs.declared.reply.Reply.{Reply}
-use Rattle.asp_messages.specs.Fields.{most_cookie}
 use Rattle.session_machine.specs.declared.item.Item.{Item}
-use Rattle.session_machine.specs.History.{nothing}
 use Rattle.keeper.specs.declared.keeping.Keeper.{Ghosts}
 use Rattle.plain_desk.specs.DeskStands.{DeskOf, DeskState, DeskStandsFor, desk_state}
+use Rattle.plain_desk.specs.Openings.{Opening, opening_over}
 use Rattle.visit_core.specs.Acts.{send, run}
 use Rattle.visit_core.specs.VisitRule.{Event, ended, act_of, has_ended}
 use Rattle.visit_core.specs.Stages.{VisitState, HasPast}
@@ -16,30 +15,37 @@ use Rattle.page_script.specs.declared.line.Line.{Line}
 use Rattle.page_script.specs.declared.script_page.ScriptPage.{ScriptPage}
 use Rattle.page_script.specs.declared.script.Script.{Script}
 use Rattle.page_script.specs.Lines.{IsScriptLine}
-use Rattle.page_script.specs.World.{Page, WorldTurn, World, history, event_of, drawn_for, MayStandNext, Performs, with_events, WorldStep, turns_of, is_heard}
+use Rattle.page_script.specs.World.{Page, PageInWorld, WorldTurn, World, history, event_of, drawn_for, MayStandNext, Performs, with_events, WorldStep, turns_of, is_heard}
 
 -- ---- the desk
 
--- The desk stands for the history of the turns, with the cookies from 1 to the last there is.
--- (CanCount says which counts of faults a keeper of this type can have.)
-pub record DeskHasTurns (CanCount : ℕ → Type 0) (desk : DeskState) (turns : List WorldTurn) : Type
-    0 where
-  pub stands : DeskStandsFor CanCount 1 nothing 0 (history turns) desk
-  pub last : desk.cookies.last ≡ most_cookie
+-- The desk stands for the history of the turns, with this beginning. (CanCount says which counts of
+-- faults a keeper of this type can have.)
+pub record DeskHasTurns (CanCount : ℕ → Type 0) (desk : DeskState) (opening : Opening)
+    (turns : List WorldTurn) : Type 0 where
+  pub stands : DeskStandsFor CanCount opening.cookies.next opening.items opening.count
+      (history turns) desk
+  pub last : desk.cookies.last ≡ opening.cookies.last
 
 -- the same of a desk over a keeper of the type
-abbrev pub HasTurns : {K : Type 0} → Ghosts K → DeskOf K → List WorldTurn → Type 0
-HasTurns G desk turns = DeskHasTurns G.can_count (desk_state G desk) turns
+abbrev pub HasTurns : {K : Type 0} → Ghosts K → DeskOf K → Opening → List WorldTurn → Type 0
+HasTurns G desk opening turns = DeskHasTurns G.can_count (desk_state G desk) opening turns
 
--- the turn of a page that sends this request behind other turns, and is answered so
-abbrev pub turn_at : ℕ → ℕ → Request → List WorldTurn → Reply → ℕ → WorldTurn
-turn_at number t request turns reply faults = record {
+-- a request that is answered so, behind which the keeper counts so many faults
+pub record Answered : Type 0 where
+  pub request : Request
+  pub reply : Reply
+  pub faults : ℕ
+
+-- the turn of the page with this number that is answered so behind other turns
+abbrev pub turn_at : ℕ → ℕ → Opening → List WorldTurn → Answered → WorldTurn
+turn_at number t opening turns answered = record {
   page = number;
   moment = t;
-  request = request;
-  drawn = drawn_for turns request.ask;
-  reply = reply;
-  faults = faults;
+  request = answered.request;
+  drawn = drawn_for opening turns answered.request.ask;
+  reply = answered.reply;
+  faults = answered.faults;
 }
 
 -- ---- a page
@@ -68,12 +74,6 @@ pub record PageAtDesk : Type 0 where
   pub page : ScriptPage
   pub desk : DeskState
 
--- A page of a world: the turns so far, its number, and the page.
-pub record PageInWorld : Type 0 where
-  pub turns : List WorldTurn
-  pub number : ℕ
-  pub page : Page
-
 -- The page of the world took a step at the moment, and the page and its desk stand for it behind
 -- that; what it prints meets the condition.
 pub record StepsAtDesk (CanCount : ℕ → Type 0) (t : ℕ) (old : PageInWorld) (at : PageAtDesk)
@@ -81,35 +81,33 @@ pub record StepsAtDesk (CanCount : ℕ → Type 0) (t : ℕ) (old : PageInWorld)
   pub events : List Event
   pub asked : List WorldTurn
   pub words : List ℕ
-  pub acts : Performs (act_of old.page.terms old.page.past t) t old.number old.page.ending old.turns
+  pub acts : Performs (act_of old.page.terms old.page.past t) t old
       (record { events = events; asked = asked; words = words })
   pub page_stands : PageStands (old.turns ++ asked) old.number at.page
       (with_events old.page events)
-  pub desk_stands : DeskHasTurns CanCount at.desk (old.turns ++ asked)
+  pub desk_stands : DeskHasTurns CanCount at.desk old.opening (old.turns ++ asked)
   pub prints : Prints words
 
 -- each page of the world that the page of the script stood for, with the desk behind it, took the
 -- step
 abbrev pub EachSteps : (ℕ → Type 0) → ℕ → PageAtDesk → PageAtDesk → (List ℕ → Type 0) → Type 0
 EachSteps CanCount t old new Prints =
-    (number : ℕ) (turns : List WorldTurn) (page : Page) → PageStands turns number old.page page
-    → DeskHasTurns CanCount old.desk turns
-    → StepsAtDesk CanCount t (record { turns = turns; number = number; page = page }) new Prints
+    (at : PageInWorld) → PageStands at.turns at.number old.page at.page
+    → DeskHasTurns CanCount old.desk at.opening at.turns
+    → StepsAtDesk CanCount t at new Prints
 
 -- The page and the desk still stand for what they stood for.
 pub record Stays (CanCount : ℕ → Type 0) (old : PageInWorld) (at : PageAtDesk) : Type 0 where
   pub page_stands : PageStands old.turns old.number at.page old.page
-  pub desk_stands : DeskHasTurns CanCount at.desk old.turns
+  pub desk_stands : DeskHasTurns CanCount at.desk old.opening old.turns
 
 -- each page of the world that the page of the script stood for, with the desk behind it, stayed or
 -- took the step
 abbrev pub EachMayStep : (ℕ → Type 0) → ℕ → PageAtDesk → PageAtDesk → Type 0
 EachMayStep CanCount t old new =
-    (number : ℕ) (turns : List WorldTurn) (page : Page) → PageStands turns number old.page page
-    → DeskHasTurns CanCount old.desk turns
-    → Stays CanCount (record { turns = turns; number = number; page = page }) new
-    ⊎ StepsAtDesk CanCount t (record { turns = turns; number = number; page = page }) new
-    (λ words. ⊤)
+    (at : PageInWorld) → PageStands at.turns at.number old.page at.page
+    → DeskHasTurns CanCount old.desk at.opening at.turns
+    → Stays CanCount at new ⊎ StepsAtDesk CanCount t at new (λ words. ⊤)
 
 -- a page of a script at a desk over a keeper of the type
 abbrev pub at_desk : {K : Type 0} → Ghosts K → ScriptPage → DeskOf K → PageAtDesk
@@ -147,6 +145,10 @@ EachHasEnded live live' =
 abbrev pub keeper_of : {K : Type 0} → Script K → K
 keeper_of script = script.desk.keeper
 
+-- how the history of a script begins that has no pages yet
+abbrev pub opening_of : {K : Type 0} → Ghosts K → Script K → Opening
+opening_of G script = opening_over G script.desk.keeper script.desk.cookies
+
 -- memory was wanting
 abbrev pub ScriptIsOver : {K : Type 0} → Script K → Type 0
 ScriptIsOver script = script.is_over ≡ true
@@ -157,7 +159,7 @@ pub record ScriptStands {K : Type 0} (G : Ghosts K) (script : Script K)
   pub limits : script.limits ≡ world.limits
   pub pages : PagesStand world.turns 0 script.pages.items world.pages
   pub numbered : AllByRecursion (λ turn. turn.page < length world.pages) world.turns
-  pub desk : HasTurns G script.desk world.turns
+  pub desk : HasTurns G script.desk world.opening world.turns
 
 -- a fact of each world that the script stands for
 abbrev pub EachWorld : {K : Type 0} → Ghosts K → Script K → (World → Type 0) → Type 0

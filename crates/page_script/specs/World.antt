@@ -7,13 +7,12 @@ use Rattle.asp_messages.specs.declared.request.Ask.{Ask}
 use Rattle.asp_messages.specs.declared.request.Ask.TheVariants.{Release}
 use Rattle.asp_messages.specs.declared.reply.Reply.{Reply as ReplyValue}
 use Rattle.asp_messages.specs.declared.reply.Reply.TheVariants.{Locked}
-use Rattle.asp_messages.specs.Fields.{most_cookie}
 use Rattle.asp_messages.specs.PlainSpelling.{◌then◌, flag_word, bytes_word, ask_spelling, reply_spelling}
 use Rattle.asp_messages.specs.Ranges.{ReplyFits}
 use Rattle.plain_desk.specs.Draws.{draw_of, draws_in}
+use Rattle.plain_desk.specs.Openings.{Opening}
 use Rattle.session_machine.specs.declared.entry.Entry.{Entry}
 use Rattle.session_machine.specs.Profiles.{newest}
-use Rattle.session_machine.specs.History.{nothing}
 use Rattle.shard_core.specs.ShardStands.{asked_entry}
 use Rattle.lock_laws.specs.Laws.{IsInForceFor}
 use Rattle.visit_core.specs.declared.act.Ending.{Ending}
@@ -47,16 +46,18 @@ pub record WorldTurn : Type 0 where
   pub reply : ReplyValue
   pub faults : ℕ
 
--- The limits of the pages to come, the pages in the order of their lines, and the requests that
--- they sent, in order.
+-- How the history of the items begins, the limits of the pages to come, the pages in the order of
+-- their lines, and the requests that they sent, in order.
 pub record World : Type 0 where
+  pub opening : Opening
   pub limits : Limits
   pub pages : List Page
   pub turns : List WorldTurn
 
 -- the world before the first line
-abbrev pub empty_world : World
-empty_world = record {
+abbrev pub world_from : Opening → World
+world_from opening = record {
+  opening = opening;
   limits = default_limits;
   pages = [];
   turns = [];
@@ -77,17 +78,24 @@ event_of turn = heard turn.moment turn.request (Reply turn.reply)
 -- ---- one step of a page
 
 -- what an ask draws behind these turns: each acquire draws one more than the acquire before it,
--- from 1 on, and 0 past the last cookie
-abbrev pub drawn_for : List WorldTurn → Ask → ℕ
-drawn_for turns ask = draw_of 1 most_cookie (draws_in (history turns)) ask
+-- from the opening's first cookie on, and 0 past its last
+abbrev pub drawn_for : Opening → List WorldTurn → Ask → ℕ
+drawn_for opening turns ask =
+    draw_of opening.cookies.next opening.cookies.last (draws_in (history turns)) ask
 
--- the turn of the page with this number that sends this request at this moment, behind other turns
-pub record IsTurn (number t : ℕ) (sent : Request) (turns : List WorldTurn)
-    (turn : WorldTurn) : Type 0 where
-  pub page : turn.page ≡ number
+-- A page of a world: how the history begins, the turns so far, the page's number, and the page.
+pub record PageInWorld : Type 0 where
+  pub opening : Opening
+  pub turns : List WorldTurn
+  pub number : ℕ
+  pub page : Page
+
+-- the turn of the page that sends this request at this moment
+pub record IsTurn (at : PageInWorld) (t : ℕ) (sent : Request) (turn : WorldTurn) : Type 0 where
+  pub page : turn.page ≡ at.number
   pub moment : turn.moment ≡ t
   pub request : turn.request ≡ sent
-  pub drawn : turn.drawn ≡ drawn_for turns sent.ask
+  pub drawn : turn.drawn ≡ drawn_for at.opening at.turns sent.ask
   pub fits : ReplyFits turn.reply
 
 -- the words for a request and its reply
@@ -105,19 +113,24 @@ pub record Added : Type 0 where
   pub asked : List WorldTurn
   pub words : List ℕ
 
--- What a step of a page adds where its visit's act is this: a request is answered, and the answer
--- is heard at once; a page that runs ends so in the same step; to wait, and to be over, changes
--- nothing. (The numbers are the moment and the page's; the turns are those before the step.)
-abbrev pub Performs : Action → ℕ → ℕ → Ending → List WorldTurn → Added → Type 0
-Performs (send request) t number ending turns adds =
-    (turn : WorldTurn) × IsTurn number t request turns turn × (adds.events ≡ event_of turn ∷ [])
+-- What a step of a page adds at the moment t where its visit's act is this: a request is answered,
+-- and the answer is heard at once; a page that runs ends so in the same step; to wait, and to be
+-- over, changes nothing.
+abbrev pub Performs : Action → ℕ → PageInWorld → Added → Type 0
+Performs (send request) t at adds =
+    (turn : WorldTurn) × IsTurn at t request turn × (adds.events ≡ event_of turn ∷ [])
     × (adds.asked ≡ turn ∷ []) × (adds.words ≡ turn_words turn)
-Performs (wait_until moment) t number ending turns adds = (adds.events ≡ []) × (adds.asked ≡ [])
+Performs (wait_until moment) t at adds = (adds.events ≡ []) × (adds.asked ≡ [])
     × (adds.words ≡ codes "wait" then decimal moment)
-Performs (run content first) t number ending turns adds = (adds.events ≡ ended ending ∷ [])
+Performs (run content first) t at adds = (adds.events ≡ ended at.page.ending ∷ [])
     × (adds.asked ≡ []) × (adds.words ≡ run_words content first)
-Performs (over outcome) t number ending turns adds = (adds.events ≡ []) × (adds.asked ≡ [])
+Performs (over outcome) t at adds = (adds.events ≡ []) × (adds.asked ≡ [])
     × (adds.words ≡ codes "over" then outcome_spelling outcome)
+
+-- the page with this number of a world
+abbrev pub page_in : World → ℕ → Page → PageInWorld
+page_in world number page =
+    record { opening = world.opening; turns = world.turns; number = number; page = page }
 
 -- the printed line of a step: its moment, the page's name and the words, with a line feed
 abbrev pub step_line : ℕ → List ℕ → List ℕ → List ℕ
@@ -138,7 +151,7 @@ pub record PageSteps (world : World) (t : ℕ) (name : List ℕ) (world' : World
   pub events : List Event
   pub asked : List WorldTurn
   pub words : List ℕ
-  pub acts : Performs (act_of page.terms page.past t) t (length before) page.ending world.turns
+  pub acts : Performs (act_of page.terms page.past t) t (page_in world (length before) page)
       (record { events = events; asked = asked; words = words })
   pub after : world' ≡ record world {
     pages = before ++ with_events page events ∷ behind;
@@ -191,9 +204,9 @@ Leads world (line ∷ script) world' output =
     (middle : World) × (printed : List ℕ) × (more : List ℕ) × WorldStep world line middle printed
     × Leads middle script world' more × (output ≡ printed ++ more)
 
--- the lines of a script lead to this world, and this is printed for them
-abbrev pub IsWorldRun : List Line → World → List ℕ → Type 0
-IsWorldRun script world output = Leads empty_world script world output
+-- the lines of a script lead from the world before them to this one, and this is printed for them
+abbrev pub IsWorldRun : Opening → List Line → World → List ℕ → Type 0
+IsWorldRun opening script world output = Leads (world_from opening) script world output
 
 -- ---- what holds in the worlds of a script
 
@@ -218,22 +231,21 @@ abbrev pub IsLawfulWorld : World → Type 0
 IsLawfulWorld world = (before : List Page) (page : Page) (behind : List Page)
     → world.pages ≡ before ++ page ∷ behind → IsLawfulPage world.turns (length before) page
 
--- The page with this number met a lock that is older than a page may run: its last event is the
+-- The page met a lock that is older than a page may run: its last event is the
 -- answer to its own ask that this lock is in the way, and the lock was in force at that place of
 -- the history, and as old as the answer says.
-pub record MetOldLock (turns : List WorldTurn) (number : ℕ) (page : Page)
-    (cookie : ℕ) : Type 0 where
-  pub met : MeetsOldLock page.terms page.past cookie
+pub record MetOldLock (at : PageInWorld) (cookie : ℕ) : Type 0 where
+  pub met : MeetsOldLock at.page.terms at.page.past cookie
   pub before : List WorldTurn
   pub turn : WorldTurn
   pub behind : List WorldTurn
-  pub place : turns ≡ before ++ turn ∷ behind
-  pub own : turn.page ≡ number
-  pub last : turns_of number behind ≡ []
+  pub place : at.turns ≡ before ++ turn ∷ behind
+  pub own : turn.page ≡ at.number
+  pub last : turns_of at.number behind ≡ []
   pub answer : event_of turn ≡ heard met.moment
-      (record { key = page.terms.key; ask = ask_for page.terms.need })
+      (record { key = at.page.terms.key; ask = ask_for at.page.terms.need })
       (Reply (Locked cookie met.age met.since))
-  pub in_force : IsInForceFor newest nothing 0 page.terms.key
+  pub in_force : IsInForceFor newest at.opening.items at.opening.count at.page.terms.key
       (record { cookie = cookie; seconds = met.age }) (history before) met.moment
 
 -- a page that releases a lock before its end met that lock, and it was old: a release by force
@@ -241,4 +253,5 @@ abbrev pub PagesForceOldLocks : World → Type 0
 PagesForceOldLocks world = (before : List Page) (page : Page) (behind : List Page) (t cookie : ℕ)
     → world.pages ≡ before ++ page ∷ behind
     → has_ended page.past ≡ false → act_of page.terms page.past t
-    ≡ send_ask page.terms (Release cookie) → MetOldLock world.turns (length before) page cookie
+    ≡ send_ask page.terms (Release cookie)
+    → MetOldLock (page_in world (length before) page) cookie

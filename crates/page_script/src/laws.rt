@@ -3,7 +3,8 @@
 ghost use Rattle.std.specs.Prelude.{◌≡◌, ◌++◌, ◌∷◌, [], ℕ, List};
 ghost use Rattle.std.specs.List.{AllByRecursion};
 ghost use Rattle.plain_words.specs.Words.{HasNo};
-ghost use Rattle.session_machine.specs.History.{nothing, IsLegal};
+ghost use Rattle.plain_desk.specs.Openings.{Opening};
+ghost use Rattle.session_machine.specs.History.{IsLegal};
 ghost use Rattle.page_script.specs.declared.line.Line.{Line};
 ghost use Rattle.page_script.specs.Lines.{IsScriptLine, LineFits};
 ghost use Rattle.page_script.specs.World.{World, history, WorldStep, Leads, IsWorldRun, IsLawfulWorld, PagesForceOldLocks};
@@ -16,20 +17,21 @@ pub fn one_line()
 
 /// A run of the world goes on by one line.
 pub fn runs_go_on()
-    ensures { (script : List Line) (world : World) (output : List ℕ) (line : Line) (next : World)
-        (printed : List ℕ) → IsWorldRun script world output
-        → WorldStep world line next printed →
-        IsWorldRun (script ++ line ∷ []) next (output ++ printed) }
+    ensures { (opening : Opening) (script : List Line) (world : World) (output : List ℕ)
+        (line : Line) (next : World) (printed : List ℕ)
+        → IsWorldRun opening script world output → WorldStep world line next printed
+        → IsWorldRun opening (script ++ line ∷ []) next (output ++ printed) }
 {}
 
 /// In each world of a run each page follows the rule of its visit over its own past. Where the
 /// history of the run is legal, a page that releases a lock before its end met that lock, which was
 /// in force, and older than a page may run.
 pub fn pages_keep_their_rule()
-    ensures lawful { (script : List Line) (world : World) (output : List ℕ)
-        → AllByRecursion LineFits script → IsWorldRun script world output → IsLawfulWorld world }
-    ensures forced { (script rest : List Line) (world last : World) (output more : List ℕ)
-        → AllByRecursion LineFits script → IsWorldRun script world output
-        → Leads world rest last more → IsLegal nothing 0 (history last.turns)
-        → PagesForceOldLocks world }
+    ensures lawful { (opening : Opening) (script : List Line) (world : World) (output : List ℕ)
+        → AllByRecursion LineFits script → IsWorldRun opening script world output
+        → IsLawfulWorld world }
+    ensures forced { (opening : Opening) (script rest : List Line) (world last : World)
+        (output more : List ℕ) → AllByRecursion LineFits script
+        → IsWorldRun opening script world output → Leads world rest last more
+        → IsLegal opening.items opening.count (history last.turns) → PagesForceOldLocks world }
 {}

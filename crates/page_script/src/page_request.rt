@@ -2,7 +2,7 @@
 ghost use Rattle.std.specs.Prelude.{◌≡◌, ◌≤◌, ◌^◌, ℕ, List, [], ◌∷◌, ◌++◌};
 ghost use Rattle.asp_messages.specs.Ranges.{RequestFits, ReplyFits};
 ghost use Rattle.page_script.specs.World.{WorldTurn};
-ghost use Rattle.plain_desk.specs.DeskStands.{desk_state};
+ghost use Rattle.plain_desk.specs.Openings.{NeverBegins, Opening};
 ghost use Rattle.page_script.specs.ScriptStands.{HasTurns, turn_at};
 
 use asp_messages::{Reply, Request};
@@ -14,13 +14,17 @@ use plain_desk::PlainDesk;
 pub fn answer<K: Keeper>(desk: &mut PlainDesk<K>, request: Request, t: u64) -> Reply
     requires moment { t ≤ 2 ^ 62 }
     requires request { RequestFits request }
-    ensures answers { (number : ℕ) (turns : List WorldTurn)
-        → HasTurns ⟦<K as Keeper>⟧ desk.old turns
-        → HasTurns ⟦<K as Keeper>⟧ desk.new
-        (turns ++ turn_at number t request turns result
-        (desk_state ⟦<K as Keeper>⟧ desk.new).faults ∷ []) }
+    ensures answers { (number : ℕ) (opening : Opening) (turns : List WorldTurn)
+        → HasTurns ⟦<K as Keeper>⟧ desk.old opening turns
+        → HasTurns ⟦<K as Keeper>⟧ desk.new opening
+        (turns ++ turn_at number t opening turns (record {
+          request = request;
+          reply = result;
+          faults = K.count desk.new.keeper;
+        }) ∷ []) }
     ensures fits { ReplyFits result }
     ensures floor { K.floor desk.new.keeper ≡ K.floor desk.old.keeper }
+    ensures tells { NeverBegins (K.told desk.old.keeper) (K.told desk.new.keeper) }
 {
     desk.act(request, t).reply
 }

@@ -7,6 +7,7 @@ use crate::script_page::ScriptPage;
 use crate::{Line, Name, PageLine, read_line};
 use asp_base::NoMemory;
 use asp_messages::{MOST_COOKIE, or_undo};
+use cookie_source::PlainCookies;
 use keeper::Keeper;
 use plain_desk::PlainDesk;
 use std::alloc::Global;
@@ -67,15 +68,16 @@ fn push_page(pages: &mut Vec<ScriptPage>, page: ScriptPage) -> Result<(), NoMemo
 }
 
 impl<K: Keeper> Script<K> {
-    ghost use Rattle.std.specs.Prelude.{◌≡◌, ◌≤◌, ◌^◌, []};
+    ghost use Rattle.std.specs.Prelude.{◌≡◌, ◌≤◌, ◌^◌, ◌↔◌, [], IsTrue};
     ghost use Rattle.std.specs.List.{AllByRecursion};
     ghost use Rattle.keeper.specs.Items.{IsEmptyTold};
-    ghost use Rattle.session_machine.specs.History.{nothing};
     ghost use Rattle.shard_core.specs.ShardStands.{StandsFor};
     ghost use Rattle.page_script.specs.declared.line.Line.{Line};
     ghost use Rattle.page_script.specs.Lines.{LineFits, PageFits};
-    ghost use Rattle.page_script.specs.World.{empty_world, history, IsLawfulWorld, PagesForceOldLocks};
-    ghost use Rattle.page_script.specs.ScriptStands.{ScriptStands, IsAppended, IfTold, IfTells, ScriptIsOver, keeper_of};
+    ghost use Rattle.asp_messages.specs.Fields.{most_cookie};
+    ghost use Rattle.plain_desk.specs.Openings.{HasFreshCookies, NeverBegins, cookies_of, opening_over, opening_with};
+    ghost use Rattle.page_script.specs.World.{history, world_from, HasName, IsLawfulWorld, PagesForceOldLocks};
+    ghost use Rattle.page_script.specs.ScriptStands.{ScriptStands, IsAppended, IfTold, IfTells, ScriptIsOver, keeper_of, opening_of};
     ghost use Rattle.page_script.specs.ScriptStands.{EachWorld, EachWorldStays, EachWorldTakes, EachWorldMayTake, NoWorldTakes, EachWorldTakesText, EachWorldMayTakeText, NoWorldTakesText};
 
     /// A script with no pages over a keeper with no items, whose cookies begin at 1. It takes no
@@ -84,20 +86,55 @@ impl<K: Keeper> Script<K> {
         requires no_faults { K.count keeper ≡ 0 }
         requires empty { IsEmptyTold (K.told keeper) }
         ensures keeper { keeper_of result ≡ keeper }
-        ensures stands { ScriptStands ⟦<K as Keeper>⟧ result empty_world }
+        ensures stands { ScriptStands ⟦<K as Keeper>⟧ result
+            (world_from (opening_with 1 most_cookie)) }
+        ensures begun { ScriptIsOver result → ⊥ }
+    {
+        Script::over(alloc, keeper, Some(PlainCookies::new(1, MOST_COOKIE)))
+    }
+
+    /// A script with no pages over the keeper, whose acquires draw these cookies; with `None` they
+    /// find none. Its history begins with the items that the keeper has. It takes no memory.
+    pub fn over(alloc: Global, keeper: K, cookies: Option<PlainCookies>) -> Script<K>
+        requires { HasFreshCookies (opening_over ⟦<K as Keeper>⟧ keeper (cookies_of cookies)) }
+        ensures keeper { keeper_of result ≡ keeper }
+        ensures begins { opening_of ⟦<K as Keeper>⟧ result
+            ≡ opening_over ⟦<K as Keeper>⟧ keeper (cookies_of cookies) }
+        ensures stands { ScriptStands ⟦<K as Keeper>⟧ result
+            (world_from (opening_over ⟦<K as Keeper>⟧ keeper (cookies_of cookies))) }
         ensures begun { ScriptIsOver result → ⊥ }
     {
         Script {
             alloc,
-            desk: PlainDesk::new(alloc, keeper, 1, MOST_COOKIE),
+            desk: PlainDesk::over(alloc, keeper, cookies),
             pages: Vec::new(alloc),
             limits: Limits::default(),
             is_over: false,
         }
     }
 
-    /// A new page.
-    fn add_page(&mut self, line: PageLine) -> LineEnd
+    /// Whether it has a page of this name.
+    pub fn has_page(&self, name: &Name) -> bool
+        ensures { EachWorld ⟦<K as Keeper>⟧ self.now (λ world.
+            IsTrue result ↔ HasName world.pages name.now) }
+    {
+        place_of(&self.pages, name).is_some()
+    }
+
+    /// The limits of the pages to come. It takes no memory.
+    pub fn set_limits(&mut self, limits: Limits)
+        requires { LimitsFit limits }
+        ensures takes { EachWorldTakes ⟦<K as Keeper>⟧ self.old self.new
+            (Line.Limits limits) (λ printed. printed ≡ []) }
+        ensures goes_on { ScriptIsOver self.new → ScriptIsOver self.old }
+        ensures keeper { keeper_of self.new ≡ keeper_of self.old }
+    {
+        self.limits = limits;
+    }
+
+    /// A new page, which is no line where its name is in use or 64 pages are there. After
+    /// `NoMemory` the script is over.
+    pub fn add_page(&mut self, line: PageLine) -> LineEnd
         requires { PageFits line }
         ensures done { result ≡ LineEnd.Done → EachWorldTakes ⟦<K as Keeper>⟧ self.old self.new
             (Line.Page line) (λ printed. printed ≡ []) }
@@ -123,8 +160,9 @@ impl<K: Keeper> Script<K> {
         }
     }
 
-    /// One step of the page of this name.
-    fn step(&mut self, t: u64, name: Name, out: &mut Vec<u8>) -> LineEnd
+    /// One step of the page of this name, which is no line where there is none: what it prints is
+    /// appended. After `NoMemory` the script is over, and the step was made or not.
+    pub fn step(&mut self, t: u64, name: Name, out: &mut Vec<u8>) -> LineEnd
         requires { t ≤ 2 ^ 62 }
         ensures done { result ≡ LineEnd.Done → EachWorldTakes ⟦<K as Keeper>⟧ self.old self.new
             (Line.Step t name) (IsAppended out.old.items out.new.items) }
@@ -137,6 +175,7 @@ impl<K: Keeper> Script<K> {
         ensures goes_on { result ≡ LineEnd.Done → ScriptIsOver self.new → ScriptIsOver self.old }
         ensures same { (result ≡ LineEnd.Done → ⊥) → out.new.items ≡ out.old.items }
         ensures floor { K.floor (keeper_of self.new) ≡ K.floor (keeper_of self.old) }
+        ensures tells { NeverBegins (K.told (keeper_of self.old)) (K.told (keeper_of self.new)) }
     {
         let Some(place) = place_of(&self.pages, &name) else {
             return LineEnd::NotALine;
@@ -166,10 +205,11 @@ impl<K: Keeper> Script<K> {
         ensures goes_on { result ≡ LineEnd.Done → ScriptIsOver self.new → ScriptIsOver self.old }
         ensures same { (result ≡ LineEnd.Done → ⊥) → out.new.items ≡ out.old.items }
         ensures floor { K.floor (keeper_of self.new) ≡ K.floor (keeper_of self.old) }
+        ensures tells { NeverBegins (K.told (keeper_of self.old)) (K.told (keeper_of self.new)) }
     {
         match line {
             Line::Limits(limits) => {
-                self.limits = limits;
+                self.set_limits(limits);
                 LineEnd::Done
             }
             Line::Page(page) => self.add_page(page),
@@ -205,6 +245,7 @@ impl<K: Keeper> Script<K> {
         ensures forced { EachWorld ⟦<K as Keeper>⟧ self.old
             (λ world. IfTells ⟦<K as Keeper>⟧ self.old (PagesForceOldLocks world)) }
         ensures floor { K.floor (keeper_of self.new) ≡ K.floor (keeper_of self.old) }
+        ensures tells { NeverBegins (K.told (keeper_of self.old)) (K.told (keeper_of self.new)) }
     {
         if self.is_over {
             return LineEnd::NoMemory;
@@ -224,7 +265,8 @@ impl<K: Keeper> Script<K> {
     pub fn into_keeper(self) -> K
         ensures keeper { result ≡ keeper_of self }
         ensures history { EachWorld ⟦<K as Keeper>⟧ self (λ world.
-            StandsFor nothing 0 (history world.turns) (K.told result) (K.count result)) }
+            StandsFor world.opening.items world.opening.count (history world.turns)
+            (K.told result) (K.count result)) }
         ensures counts { EachWorld ⟦<K as Keeper>⟧ self (λ world.
             AllByRecursion (λ e. K.can_count e.faults) (history world.turns)) }
         ensures lawful { EachWorld ⟦<K as Keeper>⟧ self IsLawfulWorld }

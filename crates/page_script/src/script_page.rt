@@ -29,6 +29,7 @@ impl ScriptPage {
     ghost use Rattle.asp_messages.specs.Ranges.{RequestFits};
     ghost use Rattle.visit_core.specs.Stages.{VisitSends, Runs};
     ghost use Rattle.visit_core.specs.Terms.{LimitsFit};
+    ghost use Rattle.plain_desk.specs.Openings.{NeverBegins};
     ghost use Rattle.page_script.specs.Lines.{PageFits};
     ghost use Rattle.page_script.specs.World.{WorldTurn, new_page, turns_of, step_line};
     ghost use Rattle.page_script.specs.ScriptStands.{PageStands, WillSend, EachStepsAt, EachMayStepAt, EachHasEnded, IsAppended};
@@ -66,6 +67,7 @@ impl ScriptPage {
             self.new desk.new) }
         ensures extends { OnErr result (Extends out.old.items out.new.items) }
         ensures floor { K.floor desk.new.keeper ≡ K.floor desk.old.keeper }
+        ensures tells { NeverBegins (K.told desk.old.keeper) (K.told desk.new.keeper) }
     {
         push_ask(out, &request.ask)?;
         let reply = answer(desk, request, t);
@@ -102,6 +104,7 @@ impl ScriptPage {
             self.new desk.new) }
         ensures extends { OnErr result (Extends out.old.items out.new.items) }
         ensures floor { K.floor desk.new.keeper ≡ K.floor desk.old.keeper }
+        ensures tells { NeverBegins (K.told desk.old.keeper) (K.told desk.new.keeper) }
     {
         push_start(out, t, self.name.as_slice())?;
         match self.visit.next(t) {

@@ -19,7 +19,7 @@ use Rattle.pipe_command.specs.Answering.{IsAnsweredInto, owed_for}
 use Rattle.pipe_command.specs.PlainRun.{output_of}
 use Rattle.pipe_command.specs.PipeProgress.{Progress}
 use Rattle.plain_desk.specs.DeskStands.{desk_state}
-use Rattle.pipe_command.specs.Responding.{PipeGave, HasAnswered, HasAnsweredLast, IsRest, IsUnbegun, Keeps, PipeLacks, PipeWaits, PipeWent, given, owing, state_of_responder, unbegun}
+use Rattle.pipe_command.specs.Responding.{PipeGave, HasAnswered, HasAnsweredLast, IsRest, IsUnbegun, Keeps, PipeLacks, PipeWaits, PipeWent, given, owing, start_with, state_of_responder, unbegun}
 use Rattle.pipe_command.proofs.ProgressLemmas.{Progress-fed, goes_on}
 
 -- the first line of a journal from place 0
@@ -128,13 +128,14 @@ module _ {K : Type 0} (G : Ghosts K) (first : Responder K) where
   of_same old new bytes rest due pipe desk clock has = record {
     pipe = pipe ∙ has.pipe;
     floor = ap (λ d. G.floor d.keeper) desk ∙ has.floor;
+    tells = λ none. ap (λ d. G.told d.keeper) desk ∙ has.tells none;
     progress =
-        subst (λ d. Progress G.can_count first.pipe bytes due (record {
+        subst (λ d. Progress G.can_count (start_with G first) bytes due (record {
           held = rest;
           desk = desk_state G d;
           clock = new.clock;
         })) (sym desk)
-        (subst (λ c. Progress G.can_count first.pipe bytes due (record {
+        (subst (λ c. Progress G.can_count (start_with G first) bytes due (record {
           held = rest;
           desk = desk_state G old.desk;
           clock = c;
@@ -148,7 +149,8 @@ module _ {K : Type 0} (G : Ghosts K) (first : Responder K) where
   has_fed now bytes rest due piece has = record {
     pipe = has.pipe;
     floor = has.floor;
-    progress = Progress-fed G.can_count first.pipe bytes due piece
+    tells = has.tells;
+    progress = Progress-fed G.can_count (start_with G first) bytes due piece
         (record (state_of_responder G now) { held = rest }) has.progress;
   }
 
@@ -179,8 +181,9 @@ module _ {K : Type 0} (G : Ghosts K) (first : Responder K) where
           (λ one. record {
             pipe = keeps.pipe ∙ before.pipe;
             floor = keeps.floor ∙ before.floor;
+            tells = λ none. keeps.tells (before.tells none);
             progress =
-                goes_on G.can_count first.pipe bytes due front Gives (state_of_responder G mid)
+                goes_on G.can_count (start_with G first) bytes due front Gives (state_of_responder G mid)
                 (state_of_responder G new)
                 m one spells before.progress;
           })
@@ -232,7 +235,12 @@ module _ {K : Type 0} (G : Ghosts K) (first : Responder K) where
       → HasAnsweredLast G first now bytes rest whole last
       → HasAnswered G first now bytes rest (whole ++ last)
   whole_of now bytes rest whole last has =
-      record { pipe = has.pipe; floor = has.floor; progress = has.progress.progress }
+      record {
+        pipe = has.pipe;
+        floor = has.floor;
+        tells = has.tells;
+        progress = has.progress.progress;
+      }
 
   -- what is due with the first line, where that was given before
   pub owed : (now : Responder K) (bytes rest due : List ℕ) → IsTrue now.is_begun

@@ -8,10 +8,10 @@ use Rattle.asp_messages.specs.declared.reply.Reply.TheVariants.{Bad}
 use Rattle.asp_messages.specs.ReplyText.{reply_text}
 use Rattle.plain_desk.specs.Draws.{draw_of, draws_in}
 use Rattle.plain_desk.specs.DeskStands.{DeskState, DeskStandsFor}
+use Rattle.plain_desk.specs.Openings.{Opening}
 use Rattle.session_machine.specs.Profiles.{newest}
 use Rattle.journal_text.specs.WritingText.{entry_line}
 use Rattle.session_machine.specs.declared.entry.Entry.{Entry}
-use Rattle.session_machine.specs.History.{nothing}
 use Rattle.shard_core.specs.ShardStands.{asked_entry}
 use Rattle.pipe_command.specs.declared.pipe.Output.{Output}
 use Rattle.pipe_command.specs.declared.pipe.Output.TheVariants.{Replies, Journal}
@@ -31,10 +31,11 @@ entry_of_answer r answer faults = asked_entry 0 answer.moment r answer.drawn ans
 -- that it stands for, and its cookie is the next by counting.
 pub record AnswersRequest (CanCount : ℕ → Type 0) (r : Request) (old new : ServerState)
     (answer : Response) : Type 0 where
-  pub history : (first : ℕ) (list : List Entry)
-      → DeskStandsFor CanCount first nothing 0 list old.desk
-      → (answer.drawn ≡ draw_of first old.desk.cookies.last (draws_in list) r.ask)
-      × DeskStandsFor CanCount first nothing 0
+  pub history : (opening : Opening) (list : List Entry)
+      → DeskStandsFor CanCount opening.cookies.next opening.items opening.count list old.desk
+      → (answer.drawn
+      ≡ draw_of opening.cookies.next old.desk.cookies.last (draws_in list) r.ask)
+      × DeskStandsFor CanCount opening.cookies.next opening.items opening.count
       (list ++ entry_of_answer r answer new.desk.faults ∷ [])
       new.desk
   pub last : new.desk.cookies.last ≡ old.desk.cookies.last

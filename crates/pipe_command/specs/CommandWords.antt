@@ -61,6 +61,17 @@ id_of (name ∷ digits ∷ []) =
     if bytes_eq name (codes "id") then id_with (hex_bytes 15 digits) else None
 id_of words = None
 
+-- a mirror at this moment, where it is one
+abbrev pub mirror_with : Option ℕ → Option Command
+mirror_with (Some moment) = Some (commands.Mirror moment)
+mirror_with None = None
+
+-- `mirror MOMENT`
+unfoldable pub mirror_of : List (List ℕ) → Option Command
+mirror_of (name ∷ moment ∷ []) =
+    if bytes_eq name (codes "mirror") then mirror_with (number_of moment last_moment) else None
+mirror_of words = None
+
 -- `replay`, and `drive`
 unfoldable pub single_of : List (List ℕ) → Option Command
 single_of (name ∷ []) =
@@ -91,4 +102,5 @@ stored_of words = None
 -- what the words of a command line say
 unfoldable pub command_of : List (List ℕ) → Option Command
 command_of words =
-    pipe_of words or load_of words or id_of words or single_of words or stored_of words
+    pipe_of words or load_of words or id_of words or mirror_of words or single_of words
+    or stored_of words

@@ -5,6 +5,7 @@ use Rattle.asp_messages.specs.Stream.{HasNoMessage, IsHopeless}
 use Rattle.session_machine.specs.Profiles.{newest}
 use Rattle.journal_text.specs.WritingText.{journal_text}
 use Rattle.plain_desk.specs.DeskStands.{desk_state}
+use Rattle.plain_desk.specs.Openings.{NeverBegins, opening_over}
 use Rattle.keeper.specs.declared.keeping.Keeper.{Ghosts}
 use Rattle.message_framing.specs.ReaderState.{ReaderState}
 use Rattle.command_loop.specs.Feeding.{Going, GoesOn, OverAnyhow, OverAtEnd}
@@ -16,7 +17,7 @@ use Rattle.pipe_command.specs.declared.responder.Response.{Response}
 use Rattle.pipe_command.specs.declared.pipe.Output.{Output}
 use Rattle.pipe_command.specs.Answering.{ServerState, AnswersAtMoment, IsAnsweredInto}
 use Rattle.pipe_command.specs.Giving.{given_body, given_head}
-use Rattle.pipe_command.specs.PlainRun.{closing, output_of}
+use Rattle.pipe_command.specs.PlainRun.{PipeStart, closing, output_of}
 use Rattle.pipe_command.specs.PipeProgress.{Progress, ProgressLast}
 
 -- what was given last
@@ -58,6 +59,13 @@ pub record PipeWaits {K : Type 0} (more : Bool) (now : Responder K) : Type 0 whe
   pub whole : IsTrue more → IsFalse now.stream.reader.is_broken
 
 module _ {K : Type 0} (G : Ghosts K) where
+  -- the start of a run that begins with this responder
+  abbrev pub start_with : Responder K → PipeStart
+  start_with first = record {
+    pipe = first.pipe;
+    opening = opening_over G first.desk.keeper first.desk.cookies;
+  }
+
   -- the server's state
   abbrev pub state_of_responder : Responder K → ServerState
   state_of_responder now = record {
@@ -84,13 +92,15 @@ module _ {K : Type 0} (G : Ghosts K) where
     pub is_begun : new.is_begun ≡ old.is_begun
     pub reader : new.stream.reader ≡ old.stream.reader
     pub floor : G.floor new.desk.keeper ≡ G.floor old.desk.keeper
+    pub tells : NeverBegins (G.told old.desk.keeper) (G.told new.desk.keeper)
 
   -- The bytes are messages that were answered and a rest, and the bytes that are owed are what a
   -- run of the messages writes.
   pub record HasAnswered (first now : Responder K) (bytes rest owed : List ℕ) : Type 0 where
     pub pipe : now.pipe ≡ first.pipe
     pub floor : G.floor now.desk.keeper ≡ G.floor first.desk.keeper
-    pub progress : Progress G.can_count first.pipe bytes owed
+    pub tells : NeverBegins (G.told first.desk.keeper) (G.told now.desk.keeper)
+    pub progress : Progress G.can_count (start_with first) bytes owed
         (record (state_of_responder now) { held = rest })
 
   -- The same, and what is owed is in two parts: for the messages before the last, and for the last.
@@ -98,7 +108,8 @@ module _ {K : Type 0} (G : Ghosts K) where
     where
       pub pipe : now.pipe ≡ first.pipe
       pub floor : G.floor now.desk.keeper ≡ G.floor first.desk.keeper
-      pub progress : ProgressLast G.can_count first.pipe bytes whole last
+      pub tells : NeverBegins (G.told first.desk.keeper) (G.told now.desk.keeper)
+      pub progress : ProgressLast G.can_count (start_with first) bytes whole last
           (record (state_of_responder now) { held = rest })
 
   -- ---- the consumer

@@ -1,9 +1,9 @@
 //! The words of a command.
 ghost use Rattle.std.specs.Prelude.{◌≡◌, ◌∷◌, [], map, string_bytes, IfSome};
 ghost use Rattle.load_generator.specs.LoadRunning.{LoadFits};
-ghost use Rattle.pipe_command.specs.Commands.{IfLoad, IfPipe};
+ghost use Rattle.pipe_command.specs.Commands.{IfLoad, IfPipe, TakesPath};
 ghost use Rattle.pipe_command.specs.PipeRun.{PipeFits};
-ghost use Rattle.pipe_command.specs.CommandWords.{command_of, id_of, load_of, pipe_of, run_of, single_of};
+ghost use Rattle.pipe_command.specs.CommandWords.{command_of, id_of, load_of, mirror_of, pipe_of, run_of, single_of};
 
 use crate::path::stored_of;
 use crate::pipe::Pipe;
@@ -29,6 +29,11 @@ pub enum Command {
     Id([u8; 15]),
     /// Judge the journal on the source.
     Replay,
+    /// List the sessions that live behind the journal on the source.
+    Mirror {
+        /// The moment at which they live, in milliseconds, at most 2^62.
+        moment: u64,
+    },
     /// Run the page script on the source.
     Drive,
 }
@@ -37,6 +42,7 @@ pub enum Command {
 fn run_of(journal: bool, start: &str, step: &str, first: &str) -> Option<Command>
     ensures fits { IfSome result (λ command. IfPipe command PipeFits) }
     ensures load { IfSome result (λ command. IfLoad command (λ load. ⊥)) }
+    ensures only { IfSome result TakesPath }
     ensures value { result ≡ run_of journal start.now step.now first.now }
 {
     let start = read_number(start.as_bytes(), LAST_MOMENT)?;
@@ -59,6 +65,7 @@ fn run_of(journal: bool, start: &str, step: &str, first: &str) -> Option<Command
 pub fn pipe_named(name: &str, start: &str, step: &str, first: &str) -> Option<Command>
     ensures fits { IfSome result (λ command. IfPipe command PipeFits) }
     ensures load { IfSome result (λ command. IfLoad command (λ load. ⊥)) }
+    ensures only { IfSome result TakesPath }
     ensures value { result ≡ pipe_of (name.now ∷ start.now ∷ step.now ∷ first.now ∷ []) }
 {
     if name == "pipe" {
@@ -118,6 +125,23 @@ fn id_of(words: &[String]) -> Option<Command>
     Some(Command::Id(bytes))
 }
 
+/// The moment of `mirror MOMENT`, where it is in its range.
+#[tactic(auto, unfolding(crate::specs::CommandWords::mirror_of))]
+fn mirror_of(words: &[String]) -> Option<Command>
+    ensures pipe { IfSome result (λ command. IfPipe command (λ pipe. ⊥)) }
+    ensures load { IfSome result (λ command. IfLoad command (λ load. ⊥)) }
+    ensures value { result ≡ mirror_of (map string_bytes words.now) }
+{
+    let [name, moment] = words else {
+        return None;
+    };
+    if name.as_str() != "mirror" {
+        return None;
+    }
+    let moment = read_number(moment.as_bytes(), LAST_MOMENT)?;
+    Some(Command::Mirror { moment })
+}
+
 /// The commands of a single word.
 #[tactic(auto, unfolding(crate::specs::CommandWords::single_of))]
 fn single_of(words: &[String]) -> Option<Command>
@@ -151,6 +175,9 @@ pub fn command_of(words: &[String]) -> Option<Command>
         return Some(command);
     }
     if let Some(command) = id_of(words) {
+        return Some(command);
+    }
+    if let Some(command) = mirror_of(words) {
         return Some(command);
     }
     if let Some(command) = single_of(words) {

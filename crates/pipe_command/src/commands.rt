@@ -10,7 +10,7 @@ use crate::command_words::{Command, command_of};
 use crate::identifiers::write_id;
 use crate::pipe_run::run_pipe;
 use asp_base::{MOST_INPUT, Sink, Source, status};
-use journal_replay::run_replay;
+use journal_replay::{run_mirror, run_replay};
 use keeper::{Keeper, Ran};
 use load_generator::run_load;
 use script_runner::run_drive;
@@ -21,8 +21,8 @@ use std::alloc::Global;
 ///
 /// The status is 2 exactly where the words are none of the table of commands; the words are judged
 /// first and without memory, and nothing is read or written then. The other statuses of `pipe` and
-/// `trace` are those of `run_pipe`, those of `load`, `replay` and `drive` those of `run_load`,
-/// `run_replay` and `run_drive`. `id` reads nothing and takes no memory; its status is 5 where the
+/// `trace` are those of `run_pipe`, those of `load`, `replay`, `mirror` and `drive` those of
+/// `run_load`, `run_replay`, `run_mirror` and `run_drive`. `id` reads nothing and takes no memory; its status is 5 where the
 /// sink failed, else 0. A word PATH names the file that the keeper stands on, which is the
 /// caller's to open.
 pub fn command<S: Source, T: Sink, K: Keeper>(
@@ -67,6 +67,10 @@ pub fn command<S: Source, T: Sink, K: Keeper>(
         },
         Some(Command::Replay) => Ran {
             status: run_replay(alloc, MOST_INPUT, source, sink),
+            keeper,
+        },
+        Some(Command::Mirror { moment }) => Ran {
+            status: run_mirror(alloc, MOST_INPUT, moment, source, sink),
             keeper,
         },
         Some(Command::Drive) => run_drive(alloc, MOST_INPUT, source, sink, keeper),

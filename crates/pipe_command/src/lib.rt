@@ -12,6 +12,6 @@ mod responder;
 
 pub use command_words::{Command, command_of};
 pub use commands::command;
-pub use path::path_of;
+pub use path::{path_of, stored_of};
 pub use pipe::{Pipe, PipeEnd, PipeVerdict};
-pub use pipe_run::run_pipe;
+pub use pipe_run::{run_pipe, run_pipe_over};

@@ -1,6 +1,6 @@
 //! The word PATH: the database file of a command that keeps its items in one.
 ghost use Rattle.std.specs.Prelude.{◌≡◌, map, option_map, string_bytes, IfSome};
-ghost use Rattle.pipe_command.specs.Commands.{IfLoad, IfPipe};
+ghost use Rattle.pipe_command.specs.Commands.{IfLoad, IfPipe, TakesPath};
 ghost use Rattle.pipe_command.specs.Path.{path_of};
 ghost use Rattle.pipe_command.specs.PipeRun.{PipeFits};
 ghost use Rattle.pipe_command.specs.CommandWords.{stored_at, stored_of};
@@ -9,6 +9,7 @@ use crate::command_words::{Command, pipe_named};
 
 /// The command, where PATH is not empty.
 fn stored_at(path: &str, command: Option<Command>) -> Option<Command>
+    ensures only { IfSome command TakesPath → IfSome result TakesPath }
     ensures value { result ≡ stored_at path.now command }
 {
     if path.is_empty() { None } else { command }
@@ -20,6 +21,7 @@ fn stored_at(path: &str, command: Option<Command>) -> Option<Command>
 pub fn stored_of(words: &[String]) -> Option<Command>
     ensures fits { IfSome result (λ command. IfPipe command PipeFits) }
     ensures load { IfSome result (λ command. IfLoad command (λ load. ⊥)) }
+    ensures only { IfSome result TakesPath }
     ensures value { result ≡ stored_of (map string_bytes words.now) }
 {
     match words {

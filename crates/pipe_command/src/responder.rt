@@ -2,19 +2,20 @@
 //! next is taken.
 ghost use Rattle.std.specs.Prelude.{◌≡◌, ◌⊎◌, ◌≤◌, ◌++◌, [], ◌^◌, OnOk, OnErr, IsTrue, ⊤};
 ghost use Rattle.asp_messages.specs.Ranges.{RequestFits, ReplyFits};
-ghost use Rattle.keeper.specs.Items.{IsEmptyTold};
+ghost use Rattle.plain_desk.specs.Openings.{HasFreshCookies, cookies_of, opening_over};
 ghost use Rattle.session_machine.specs.History.{DrawFits, HasPlace};
 ghost use Rattle.stream_core.specs.Whole.{IfFit};
 ghost use Rattle.pipe_command.specs.declared.pipe.Output.TheVariants as outputs;
 ghost use Rattle.pipe_command.specs.Giving.{given_body, given_head};
 ghost use Rattle.pipe_command.specs.PlainRun.{closing, output_of};
-ghost use Rattle.pipe_command.specs.Responding.{ResponderAnswers, Keeps, LeavesAnswered, PipeWent, given};
+ghost use Rattle.pipe_command.specs.Responding.{ResponderAnswers, Keeps, LeavesAnswered, PipeWent, given, start_with};
 ghost use Rattle.pipe_command.specs.PipeRun.{PipeFits};
 
 use crate::pipe::{Output, Pipe, PipeVerdict};
 use asp_base::{NoMemory, StepClock};
-use asp_messages::{MOST_COOKIE, Message, Reply, ReplyHead, Request, reply_body, reply_head};
+use asp_messages::{Message, Reply, ReplyHead, Request, reply_body, reply_head};
 use command_loop::{Consumer, Stepped};
+use cookie_source::PlainCookies;
 use journal_text::write_entry;
 use keeper::Keeper;
 use plain_desk::PlainDesk;
@@ -71,13 +72,16 @@ pub struct Responder<K> {
 }
 
 impl<K: Keeper> Responder<K> {
-    /// Nothing was read. It takes no memory.
-    pub fn new(alloc: Global, pipe: Pipe, keeper: K) -> Responder<K>
+    /// Nothing was read; acquires draw these cookies, and with `None` they find none. It takes no
+    /// memory.
+    pub fn new(alloc: Global, pipe: Pipe, keeper: K, cookies: Option<PlainCookies>) -> Responder<K>
         requires pipe { PipeFits pipe }
-        requires no_faults { K.count keeper ≡ 0 }
-        requires empty { IsEmptyTold (K.told keeper) }
+        requires fresh { HasFreshCookies (opening_over ⟦<K as Keeper>⟧ keeper (cookies_of cookies)) }
         ensures begun { PipeWent ⟦<K as Keeper>⟧ result result [] [] }
-        ensures pipe { result.pipe ≡ pipe }
+        ensures start { start_with ⟦<K as Keeper>⟧ result ≡ record {
+          pipe = pipe;
+          opening = opening_over ⟦<K as Keeper>⟧ keeper (cookies_of cookies);
+        } }
         ensures keeper { result.desk.keeper ≡ keeper }
     {
         Responder {
@@ -85,7 +89,7 @@ impl<K: Keeper> Responder<K> {
             pipe,
             is_begun: !pipe.journal,
             stream: Stream::new(alloc),
-            desk: PlainDesk::new(alloc, keeper, pipe.first, MOST_COOKIE),
+            desk: PlainDesk::over(alloc, keeper, cookies),
             clock: StepClock::new(pipe.start, pipe.step),
             given: Given::Nothing,
             line: Vec::new(alloc),

@@ -56,6 +56,8 @@ fn numbers_out_of_range_are_no_command(rt: HostRuntime) -> Result<(), Fail> {
 fn words_and_digits_that_are_missing_are_no_command(rt: HostRuntime) -> Result<(), Fail> {
     assert!(rt; are_no_command(rt.alloc(), &["pipe"])?);
     assert!(rt; are_no_command(rt.alloc(), &["id", "00"])?);
+    assert!(rt; are_no_command(rt.alloc(), &["mirror"])?);
+    assert!(rt; are_no_command(rt.alloc(), &["mirror", "4611686018427387905"])?);
     Ok(())
 }
 

@@ -95,7 +95,12 @@ fn a_sink_that_fails_ends_a_journal(rt: HostRuntime) -> Result<(), Fail> {
 
 /// The status of `replay`, and what it wrote.
 fn replay(alloc: Global, journal: &[u8]) -> Result<(u8, MemorySink), Fail> {
-    let given = words_of(alloc, &["replay"])?;
+    told_by(alloc, &["replay"], journal)
+}
+
+/// The status of a command that reads a journal, and what it wrote.
+fn told_by(alloc: Global, words: &[&str], journal: &[u8]) -> Result<(u8, MemorySink), Fail> {
+    let given = words_of(alloc, words)?;
     let mut input = source(alloc, journal, 16_384, &[])?;
     let mut output = sink(alloc, &[])?;
     let status = command_status(
@@ -120,6 +125,25 @@ fn a_traced_load_is_judged_legal(rt: HostRuntime) -> Result<(), Fail> {
     assert_eq!(rt; traced, 0);
     assert_eq!(rt; status, 0);
     assert_eq!(rt; verdict.taken(), b"legal 10\n".as_slice());
+    Ok(())
+}
+
+#[test]
+fn a_traced_run_leaves_its_sessions(rt: HostRuntime) -> Result<(), Fail> {
+    let alloc = rt.alloc();
+    let (traced, journal) = run_text(alloc, TRACE, WRITE_AND_READ, 16_384)?;
+    assert_eq!(rt; traced, 0);
+    for (moment, lines) in [
+        (
+            "1200999",
+            b"x2f61 0 0 20 0 1000 86400000 x78\nsessions 1\n".as_slice(),
+        ),
+        ("1201000", b"sessions 0\n".as_slice()),
+    ] {
+        let (status, sessions) = told_by(alloc, &["mirror", moment], journal.taken())?;
+        assert_eq!(rt; status, 0);
+        assert_eq!(rt; sessions.taken(), lines);
+    }
     Ok(())
 }
 

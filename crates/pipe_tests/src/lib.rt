@@ -21,6 +21,8 @@ mod load_counts;
 #[cfg(test)]
 mod loads;
 #[cfg(test)]
+mod openings;
+#[cfg(test)]
 mod pieces;
 #[cfg(test)]
 mod running;

@@ -12,10 +12,12 @@ use Rattle.session_machine.specs.History.{IsFreshDraw, IsHeldBelow}
 use Rattle.session_machine.proofs.HistoryLemmas.{All-push}
 use Rattle.shard_core.specs.declared.shard.Swept.{Swept}
 use Rattle.shard_core.specs.declared.shard.Swept.TheVariants as swept
-use Rattle.shard_core.specs.ShardStands.{StandsFor, asked_entry}
+use Rattle.keeper.specs.declared.keeping.Keeper.{Ghosts}
+use Rattle.shard_core.specs.ShardStands.{StandsFor, TellsAfter, asked_entry}
 use Rattle.shard_core.specs.Sweeping.{swept_entry, swept_deed}
 use Rattle.plain_desk.specs.Draws.{DrawsNext, draw_of, draws, deed_draws, draws_in}
-use Rattle.plain_desk.specs.DeskStands.{DeskState, DeskStandsFor}
+use Rattle.plain_desk.specs.DeskStands.{DeskOf, DeskState, DeskStandsFor}
+use Rattle.plain_desk.specs.Openings.{HasFreshCookies, HasHistoryFrom, opening_over, told_items}
 
 pub draws_in-push : (es : List Entry) (e : Entry)
     → draws_in (es ++ e ∷ []) ≡ draws_in es + deed_draws e.deed
@@ -38,16 +40,17 @@ held_more None n m le below = tt
 held_more (Some item) n m le below = hold_more item.holder n m le below
 
 -- a drawn cookie that is none of the cookies before the next is fresh
-fresh_draw : (opening : List ℕ → Option Item) (es : List Entry) (next drawn : ℕ)
-    → (0 < drawn → next ≤ drawn) → AllByRecursion (λ e. e.drawn < next) es
-    → ((key : List ℕ) → IsHeldBelow next (opening key)) → IsFreshDraw opening es drawn
-fresh_draw opening es next zero above all held = inl refl
-fresh_draw opening es next (suc n) above all held =
+fresh_draw : (opening : List ℕ → Option Item) (es : List Entry) (next last drawn : ℕ)
+    → (0 < drawn → next ≤ last) → (0 < drawn → next ≤ drawn)
+    → AllByRecursion (λ e. e.drawn < next) es
+    → (next ≤ last → (key : List ℕ) → IsHeldBelow next (opening key)) → IsFreshDraw opening es drawn
+fresh_draw opening es next last zero left above all held = inl refl
+fresh_draw opening es next last (suc n) left above all held =
     let le = above (omega arith) in
     inr (
       below_more es next (suc n) le all,
       λ key. held_more (opening key) next (suc n) le
-          (held key),
+          (held (left (omega arith)) key),
     )
 
 module _ (CanCount : ℕ → Type 0) (first : ℕ) (opening : List ℕ → Option Item) (count : ℕ)
@@ -66,16 +69,17 @@ module _ (CanCount : ℕ → Type 0) (first : ℕ) (opening : List ℕ → Optio
     goes_on-asked caller t drawn r reply drew history = (
       drawn_is,
       record {
-        stands = history (fresh_draw opening list old.cookies.next drawn drew.above stand.drawn
-            stand.held) stand.stands;
+        stands = history (fresh_draw opening list old.cookies.next old.cookies.last drawn drew.left
+            drew.above stand.drawn stand.held) stand.stands;
         counts = All-push (λ (f : Entry). CanCount f.faults) list entry stand.counts can;
         next = nth.1 ∙ ap (λ l. counter_after first l (draws_in list + draws r.ask)) (sym drew.last)
             ∙ ap (counter_after first new.cookies.last) (sym (draws_in-push list entry));
-        some = let last = drew.last in let low = stand.some in omega (arith, last, low);
+        in_order = let last = drew.last in let low = stand.in_order in omega (arith, last, low);
         drawn = All-push (λ (f : Entry). f.drawn < new.cookies.next) list entry
             (below_more list old.cookies.next new.cookies.next drew.rises stand.drawn) drew.below;
-        held = λ key. held_more (opening key) old.cookies.next new.cookies.next drew.rises
-            (stand.held key);
+        held = λ left key. held_more (opening key) old.cookies.next new.cookies.next drew.rises
+            (stand.held (let last = drew.last in let rises = drew.rises in
+            omega (arith, left, last, rises)) key);
       },
     )
       where
@@ -85,7 +89,7 @@ module _ (CanCount : ℕ → Type 0) (first : ℕ) (opening : List ℕ → Optio
         nth : (drawn ≡ draw_of first old.cookies.last (draws_in list) r.ask)
             × (new.cookies.next
             ≡ counter_after first old.cookies.last (draws_in list + draws r.ask))
-        nth = drew.nth first (draws_in list) stand.some stand.next
+        nth = drew.nth first (draws_in list) stand.in_order stand.next
 
         drawn_is : drawn ≡ draw_of first old.cookies.last (draws_in list) r.ask
         drawn_is = nth.0
@@ -109,10 +113,45 @@ module _ (CanCount : ℕ → Type 0) (first : ℕ) (opening : List ℕ → Optio
           let more = draws_in-push list entry in
           let none = swept_draws_none s in
           stand.next ∙ ap (counter_after first old.cookies.last) (omega (arith, more, none));
-      some = stand.some;
+      in_order = stand.in_order;
       drawn = All-push (λ (f : Entry). f.drawn < old.cookies.next) list entry stand.drawn some;
       held = stand.held;
     }
       where
         entry : Entry
         entry = swept_entry caller t s new.faults
+
+-- ---- a beginning
+
+tells_itself : (told : Option (List ℕ → Option Item)) (count : ℕ)
+    → TellsAfter (told_items told) count [] told
+tells_itself None count = tt
+tells_itself (Some items) count = (
+  record {
+    formed = tt;
+    counts = tt;
+    draws = tt;
+    fresh_draws = tt;
+    keys = λ key. tt;
+    looks = tt;
+  },
+  λ key. refl,
+)
+
+-- a desk stands for the history with no entry that begins with its own items
+pub begins : {K : Type 0} (G : Ghosts K) (desk : DeskOf K) → 0 < desk.cookies.next
+    → desk.cookies.next ≤ desk.cookies.last + 1
+    → HasFreshCookies (opening_over G desk.keeper desk.cookies)
+    → HasHistoryFrom G (opening_over G desk.keeper desk.cookies) [] desk
+begins G desk some in_order fresh = record {
+  stands = record {
+    counted = refl;
+    caused = tt;
+    told_is = tells_itself (G.told desk.keeper) (G.count desk.keeper);
+  };
+  counts = tt;
+  next = omega (arith, in_order);
+  in_order = in_order;
+  drawn = tt;
+  held = fresh;
+}

@@ -1,5 +1,5 @@
 -- When a desk stands for a history.
-use Rattle.std.specs.Prelude.{◌≡◌, ℕ, ◌<◌, ◌≤◌, List, Option}
+use Rattle.std.specs.Prelude.{◌≡◌, ℕ, ◌+◌, ◌<◌, ◌≤◌, List, Option}
 use Rattle.std.specs.List.{AllByRecursion}
 use Rattle.cookie_source.specs.Counting.{Counter, counter_after}
 use Rattle.session_machine.specs.declared.entry.Entry.{Entry}
@@ -30,15 +30,17 @@ desk_state G desk = record {
 
 -- What the desk's keeper tells and counts are those after the history, each of whose counts of
 -- faults is one that a keeper of the type can have; and the cookies drawn in it are those from the
--- first on, in order. None of the cookies left was drawn, or is held in the opening map.
+-- first on, in order. None of the cookies left was drawn, or is held in the opening map. (Where
+-- the first cookie is the one past the last, there are none.)
 pub record DeskStandsFor (CanCount : ℕ → Type 0) (first_cookie : ℕ) (opening : List ℕ → Option Item)
     (count : ℕ) (list : List Entry) (desk : DeskState) : Type 0 where
   pub stands : StandsFor opening count list desk.told desk.faults
   pub counts : AllByRecursion (λ e. CanCount e.faults) list
   pub next : desk.cookies.next ≡ counter_after first_cookie desk.cookies.last (draws_in list)
-  pub some : first_cookie ≤ desk.cookies.last
+  pub in_order : first_cookie ≤ desk.cookies.last + 1
   pub drawn : AllByRecursion (λ e. e.drawn < desk.cookies.next) list
-  pub held : (key : List ℕ) → IsHeldBelow desk.cookies.next (opening key)
+  pub held : desk.cookies.next ≤ desk.cookies.last → (key : List ℕ)
+      → IsHeldBelow desk.cookies.next (opening key)
 
 -- a desk over a keeper of the type stands for the history
 abbrev pub HasHistory : {K : Type 0} → Ghosts K → ℕ → (List ℕ → Option Item) → ℕ → List Entry

@@ -34,10 +34,11 @@ CookiesFit cookies = (0 < cookies.next) × (cookies.last < 2 ^ 63)
 
 -- The ask drew its cookie by counting.
 pub record DrawsNext (old new : Counter) (ask : Ask) (drawn : ℕ) : Type 0 where
-  pub nth : (first_cookie j : ℕ) → first_cookie ≤ old.last → old.next
+  pub nth : (first_cookie j : ℕ) → first_cookie ≤ old.last + 1 → old.next
       ≡ counter_after first_cookie old.last j
       → (drawn ≡ draw_of first_cookie old.last j ask)
       × (new.next ≡ counter_after first_cookie old.last (j + draws ask))
+  pub left : 0 < drawn → old.next ≤ old.last
   pub above : 0 < drawn → old.next ≤ drawn
   pub below : drawn < new.next
   pub rises : old.next ≤ new.next

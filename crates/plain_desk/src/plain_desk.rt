@@ -10,6 +10,7 @@ ghost use Rattle.shard_core.specs.ShardStands.{CountsFault, NoFewerFaults, asked
 ghost use Rattle.shard_core.specs.Sweeping.{HasDue, swept_entry};
 ghost use Rattle.plain_desk.specs.Draws.{CookiesFit, DrawsNext, draw_of, draws_in};
 ghost use Rattle.plain_desk.specs.DeskStands.{HasHistory};
+ghost use Rattle.plain_desk.specs.Openings.{HasFreshCookies, HasHistoryFrom, NeverBegins, cookies_of, opening_over};
 
 use asp_messages::{Ask, Reply, Request};
 use cookie_source::PlainCookies;
@@ -58,6 +59,22 @@ fn draw_for(cookies: &mut PlainCookies, ask: &Ask) -> u64
 }
 
 impl<K: Keeper> PlainDesk<K> {
+    /// A desk over the keeper, with these cookies; with `None` there are none at all. It takes no
+    /// memory.
+    ///
+    /// Its history begins with the items and the count of faults that the keeper has.
+    pub fn over(alloc: Global, keeper: K, cookies: Option<PlainCookies>) -> PlainDesk<K>
+        ensures desk { result ≡ record { keeper = keeper; cookies = cookies_of cookies } }
+        ensures begins { HasFreshCookies (opening_over ⟦<K as Keeper>⟧ keeper (cookies_of cookies))
+            → HasHistoryFrom ⟦<K as Keeper>⟧
+            (opening_over ⟦<K as Keeper>⟧ keeper (cookies_of cookies)) [] result }
+    {
+        PlainDesk {
+            shard: Shard::new(alloc, keeper),
+            cookies: cookies.unwrap_or(PlainCookies::none()),
+        }
+    }
+
     /// A desk over the keeper, with the cookies from `first_cookie` to `last_cookie`. It takes no
     /// memory.
     pub fn new(alloc: Global, keeper: K, first_cookie: u64, last_cookie: u64) -> PlainDesk<K>
@@ -105,6 +122,7 @@ impl<K: Keeper> PlainDesk<K> {
             → CountsFault ⟦<K as Keeper>⟧ self.old.keeper self.new.keeper }
         ensures count { NoFewerFaults ⟦<K as Keeper>⟧ self.old.keeper self.new.keeper }
         ensures floor { K.floor self.new.keeper ≡ K.floor self.old.keeper }
+        ensures tells { NeverBegins (K.told self.old.keeper) (K.told self.new.keeper) }
     {
         let drawn = draw_for(&mut self.cookies, &request.ask);
         let reply = self.shard.act(request, t, drawn);

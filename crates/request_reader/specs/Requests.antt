@@ -1,33 +1,13 @@
 -- What the head of a request means.
-use Rattle.std.specs.Prelude.{◌≡◌, ℕ, ◌≤◌, List, length, take, map, Some}
+use Rattle.std.specs.Prelude.{◌≡◌, ℕ, List, length, Some}
 use Rattle.httparse.specs.Grammar.{RequestHead}
-use Rattle.httparse.specs.declared.spans.HeaderSpan.{HeaderSpan}
-use Rattle.httparse.specs.declared.spans.RequestSpans.{RequestSpans}
-use Rattle.httparse.specs.Spans.{header_bytes, IsRequestWithin, IsRequestOf}
 use Rattle.asp_messages.specs.declared.request.Ask.{Ask}
 use Rattle.asp_messages.specs.declared.request.Ask.TheVariants.{Read, Acquire, Release, Write, Remove, Reset}
 use Rattle.asp_messages.specs.declared.request.Message.{Message}
 use Rattle.asp_messages.specs.declared.request.Message.TheVariants.{Fit, Unfit}
 use Rattle.asp_messages.specs.Fields.{request_fields, body_length}
-use Rattle.asp_messages.specs.Head.{IsRequestHead, most_head}
+use Rattle.asp_messages.specs.Head.{IsRequestHead}
 use Rattle.asp_messages.specs.RequestSpelling.{message_of}
-
--- The text is a head that announces a body of so many bytes.
-pub record IsRequestAnnounced (text : List ℕ) (len : ℕ) : Type 0 where
-  pub head : RequestHead
-  pub is_head : IsRequestHead text head
-  pub announced : body_length (request_fields head) ≡ Some len
-
--- The text is a head, its parts lie at these spans, and its body has the length that it announces.
-pub record IsRequestParsed (text : List ℕ) (headers : List HeaderSpan) (spans : RequestSpans)
-    (len : ℕ)
-    : Type 0 where
-  pub within : IsRequestWithin text headers spans
-  pub of : IsRequestOf text headers spans
-  pub whole : spans.len ≡ length text
-  pub short : length text ≤ most_head
-  pub room : length headers ≤ 64
-  pub announced : body_length (map (header_bytes text) (take spans.headers headers)) ≡ Some len
 
 -- The text is a request head that announces this body, and they say the message.
 pub record MeansRequest (text body : List ℕ) (m : Message) : Type 0 where

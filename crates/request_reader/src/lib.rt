@@ -2,6 +2,8 @@
 //! are cut.
 #![tactic(auto)]
 
+mod request_head;
 mod request_kind;
 
+pub use request_head::parse_head;
 pub use request_kind::{Next, RequestReader, Requests};

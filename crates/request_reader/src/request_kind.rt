@@ -1,24 +1,24 @@
 //! Requests as a kind of messages, and their reader: what a head spells, and the body behind it.
-ghost use Rattle.std.specs.Prelude.{◌≡◌, ◌≤◌, ℕ, List, length, IfSome, IsNone, [], map, All, vec_capacity};
+ghost use Rattle.std.specs.Prelude.{◌≡◌, ◌≤◌, [], length, map, All, vec_capacity};
 ghost use Rattle.asp_messages.specs.Fields.{request_fields};
-ghost use Rattle.asp_messages.specs.Head.{IsRequestHead, most_head};
+ghost use Rattle.asp_messages.specs.Head.{IsRequestHead};
 ghost use Rattle.asp_messages.specs.RequestSpelling.{SpellsRequest};
 ghost use Rattle.asp_messages.specs.Stream.{IsWaiting};
-ghost use Rattle.message_framing.specs.Framed.{BeginsNothing};
-ghost use Rattle.request_reader.specs.Requests.{IsRequestAnnounced, IsRequestParsed, MeansRequest, filled_message, filled_ask};
-ghost use Rattle.request_reader.specs.RequestLaws.{spells, spelled, ends, fits, short, waits_for_head, waits_for_body};
+ghost use Rattle.request_reader.specs.Requests.{MeansRequest, filled_message, filled_ask};
+ghost use Rattle.request_reader.specs.RequestHeads.{IsRequestAnnounced, short, waits_for_head, waits_for_body};
+ghost use Rattle.request_reader.specs.RequestLaws.{spells, spelled, ends, fits};
 ghost use Rattle.httparse.specs.Spans.{IsHeaderWithin, header_bytes};
 ghost use Rattle.message_framing.specs.Standings.{standing_of};
 ghost use Rattle.percent_encoding.specs.Percent as percent;
 ghost use Rattle.asp_messages.specs.RequestSpelling as spelling;
 
+use crate::request_head::parse_head;
 use asp_base::{Bytes, same_name};
 use asp_messages::{Ask, MOST_COOKIE, MOST_KEY, MOST_MINUTES, Message, Request, named};
-use httparse::Status;
-use httparse::spans::{HeaderSpan, RequestSpans, parse_request};
+use httparse::spans::HeaderSpan;
 use message_framing::{
-    Begun, FieldOccurrence, Found, MessageKind, MessageReader, body_length, find_field,
-    lock_cookie, number_needed, number_or,
+    Begun, FieldOccurrence, Found, MessageKind, MessageReader, find_field, lock_cookie,
+    number_needed, number_or,
 };
 use percent_encoding::percent_decode;
 use std::alloc::Global;
@@ -33,23 +33,6 @@ pub type RequestReader = MessageReader<Requests>;
 
 /// What a reader answers when it is asked for the next message.
 pub type Next = Found<Message>;
-
-/// Where a head that ends with the text has its parts, and the length of the body that it
-/// announces, in bytes. `None` where no message begins with the text.
-fn parse(text: &[u8], headers: &mut [HeaderSpan; 64]) -> Option<(RequestSpans, u64)>
-    requires { length text.now ≤ most_head }
-    ensures head { IfSome result (λ r. IsRequestParsed text.now headers.new r.0 r.1) }
-    ensures none { IsNone result → BeginsNothing MeansRequest text.now }
-{
-    let Ok(Status::Complete(spans)) = parse_request(text, headers) else {
-        return None;
-    };
-    if spans.len != text.len() {
-        return None;
-    }
-    let body_len = body_length(text, &headers[..spans.headers])?;
-    Some((spans, body_len))
-}
 
 impl MessageKind for Requests {
     type Message = Message;
@@ -83,7 +66,7 @@ impl MessageKind for Requests {
         headers: &mut [HeaderSpan; 64],
         text: &[u8],
     ) -> Option<Begun<Message>> {
-        let (spans, body_len) = parse(text, headers)?;
+        let (spans, body_len) = parse_head(text, headers)?;
         Some(Begun {
             message: message(
                 room,

@@ -7,12 +7,12 @@ use Rattle.plain_words.proofs.SplitLemmas.{split_one}
 use Rattle.session_machine.specs.declared.item.Item.{Item}
 use Rattle.page_script.specs.declared.line.Line.{Line}
 use Rattle.page_script.specs.Lines.{line_text, IsScriptLine}
-use Rattle.page_script.specs.World.{World, empty_world, Leads}
+use Rattle.page_script.specs.World.{World, world_from, Leads}
 use Rattle.page_script.proofs.ReadingLemmas.{one_line_each, line_feed_nowhere}
 use Rattle.script_runner.specs.declared.script_verdict.ScriptVerdict.TheVariants as verdicts
 use Rattle.command_loop.specs.declared.ending.RunEnd.TheVariants as ends
 use Rattle.command_loop.specs.Flow.{flow}
-use Rattle.script_runner.specs.Drive.{ScriptEnd, script_text, AreScriptLines, BeginsNoScript, IsUnfinished, IsDrive, IsScript, TellsScript, TellsFewer, status_of_script}
+use Rattle.script_runner.specs.Drive.{DriveStart, ScriptEnd, script_text, AreScriptLines, BeginsNoScript, IsUnfinished, IsDrive, IsScript, TellsScript, TellsFewer, status_of_script}
 use Rattle.script_runner.proofs.NameLemmas.{names, names_after, names-step, MayStandNext-same, MayStandNext-of_step}
 
 heads : (a b : ℕ) (xs ys : List ℕ) → a ∷ xs ≡ b ∷ ys → (a ≡ b) × (xs ≡ ys)
@@ -136,20 +136,20 @@ unfinished_left new rest (line ∷ script) (unseen, inr end) is lines =
 
 -- ---- runs
 
-module _ (CanCount : ℕ → Type 0) (most : ℕ) (sink sink' : Option (List ℕ)) (told : Option (List ℕ
-    → Option Item)) (faults : ℕ) where
+module _ (CanCount : ℕ → Type 0) (start : DriveStart) (sink sink' : Option (List ℕ))
+    (told : Option (List ℕ → Option Item)) (faults : ℕ) where
   left_of_run : (old new : List ℕ
       × List ℕ) (end : ScriptEnd)
-      (run : IsDrive CanCount most (flow (Some old) (Some new) sink sink')
+      (run : IsDrive CanCount start (flow (Some old) (Some new) sink sink')
       told faults end) → IsScript old.1 → Left run.world (run.rest ++ new.1)
   left_of_run old new end run script =
-      left_of run.script script.0 run.rest new.1 empty_world empty_world run.world script.1
-      run.output script.2
+      left_of run.script script.1 run.rest new.1 (world_from start.opening)
+      (world_from script.0) run.world script.2 run.output script.3
       (ap (λ t. t ++ new.1) (sym run.spelled) ∙ sym run.given.1
-      ∙ script.3) run.lines script.4 run.run script.5 refl
+      ∙ script.4) run.lines script.5 run.run script.6 refl
 
   broken_script : (source source' : Option (List ℕ × List ℕ))
-      → IsDrive CanCount most (flow source source' sink sink') told faults
+      → IsDrive CanCount start (flow source source' sink sink') told faults
       (ends.Over verdicts.Broken) → TellsScript source → ⊥
   broken_script None source' run script = script
   broken_script (Some old) None run script = absurd run.given
@@ -162,8 +162,8 @@ module _ (CanCount : ℕ → Type 0) (most : ℕ) (sink sink' : Option (List ℕ
       ]
 
   long_input : (source source' : Option (List ℕ × List ℕ))
-      → IsDrive CanCount most (flow source source' sink sink') told faults ends.Long
-      → TellsFewer source most → ⊥
+      → IsDrive CanCount start (flow source source' sink sink') told faults ends.Long
+      → TellsFewer source start.most → ⊥
   long_input None source' run fewer = fewer
   long_input (Some old) None run fewer = absurd run.given
   long_input (Some old) (Some new) run fewer =
@@ -171,7 +171,7 @@ module _ (CanCount : ℕ → Type 0) (most : ℕ) (sink sink' : Option (List ℕ
 
   -- status 3 is given to no script
   pub no_script : (source source' : Option (List ℕ × List ℕ)) (end : ScriptEnd)
-      → IsDrive CanCount most (flow source source' sink sink') told faults end
+      → IsDrive CanCount start (flow source source' sink sink') told faults end
       → status_of_script end ≡ 3 → TellsScript source → ⊥
   no_script source source' (ends.Over verdicts.Whole) run is script = omega (arith, is)
   no_script source source' (ends.Over verdicts.Broken) run is script =
@@ -182,8 +182,8 @@ module _ (CanCount : ℕ → Type 0) (most : ℕ) (sink sink' : Option (List ℕ
   no_script source source' ends.Long run is script = omega (arith, is)
 
   pub complete_run : (source source' : Option (List ℕ × List ℕ)) (end : ScriptEnd)
-      → IsDrive CanCount most (flow source source' sink sink') told faults end → TellsScript source
-      → TellsFewer source most
+      → IsDrive CanCount start (flow source source' sink sink') told faults end → TellsScript source
+      → TellsFewer source start.most
       → (end ≡ ends.ReadFault → ⊥) → (end ≡ ends.WriteFault → ⊥) → (status_of_script end ≡ 0)
       ⊎ (status_of_script end ≡ 6)
   complete_run source source' (ends.Over verdicts.Whole) run script fewer read write = inl refl

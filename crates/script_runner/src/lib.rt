@@ -5,5 +5,5 @@ mod drive;
 mod driver;
 mod script_verdict;
 
-pub use drive::run_drive;
+pub use drive::{run_drive, run_drive_over};
 pub use script_verdict::{ScriptEnd, ScriptVerdict};

@@ -1,4 +1,4 @@
--- The words of `serve PORT WORKERS LIMIT`.
+-- The words of `serve PORT WORKERS LIMIT`, and of `serve PORT WORKERS LIMIT FOLDER`.
 use Rattle.std.specs.Prelude.{ℕ, ◌<◌, ◌≤◌, List, [], ◌∷◌, codes, Option, Some, None, ◌&&◌, nat_lt, if◌then◌else◌}
 use Rattle.std.specs.Str.{bytes_eq}
 use Rattle.asp_base.specs.Numbers.{number_of}
@@ -19,6 +19,12 @@ serve_of (name ∷ port ∷ workers ∷ limit ∷ []) =
     then serve_with (number_of port 65535) (number_of workers 64) (number_of limit 1000000)
     else None
 serve_of words = None
+
+-- what the words say that end with a folder, which is any word that is not empty
+abbrev pub serve_with_folder : List (List ℕ) → Option ServeWords
+serve_with_folder (name ∷ port ∷ workers ∷ limit ∷ (c ∷ cs) ∷ []) =
+    serve_of (name ∷ port ∷ workers ∷ limit ∷ [])
+serve_with_folder words = None
 
 -- the number of workers that they say, where they say one
 abbrev pub workers_in : Option ServeWords → Option ℕ

@@ -4,5 +4,5 @@
 mod served_words;
 mod words_of_serve;
 
-pub use served_words::serve;
-pub use words_of_serve::{ServeWords, serve_words};
+pub use served_words::{serve, serve_noted};
+pub use words_of_serve::{ServeWords, serve_words, serve_words_with_folder};

@@ -1,6 +1,6 @@
 //! The words of `serve`.
 ghost use Rattle.std.specs.Prelude.{◌≡◌, ◌≢◌, ◌≤◌, IfSome, IsFalse, IsTrue, Some, map, string_bytes};
-ghost use Rattle.serve_command.specs.ServeWords.{ServeWordsFit, serve_of, workers_in};
+ghost use Rattle.serve_command.specs.ServeWords.{ServeWordsFit, serve_of, serve_with_folder, workers_in};
 
 use asp_base::read_number;
 
@@ -51,15 +51,30 @@ pub fn serve_words(words: &[String]) -> Option<ServeWords>
     })
 }
 
-/// Whether the words are those of `serve` with this number of workers. It takes no memory.
-pub(crate) fn says_workers(words: &[String], workers: usize) -> bool
-    ensures yes { IsTrue result
-        → workers_in (serve_of (map string_bytes words.now)) ≡ Some workers }
-    ensures no { IsFalse result
-        → workers_in (serve_of (map string_bytes words.now)) ≢ Some workers }
+/// The numbers in the words of `serve PORT WORKERS LIMIT FOLDER`, where FOLDER is any word that is
+/// not empty; `None` exactly where the words are no such, or a number is not in its range. They are
+/// judged without memory.
+pub fn serve_words_with_folder(words: &[String]) -> Option<ServeWords>
+    ensures value { result ≡ serve_with_folder (map string_bytes words.now) }
+    ensures fits { IfSome result ServeWordsFit }
+{
+    let [_, _, _, _, folder] = words else {
+        return None;
+    };
+    if folder.as_bytes().is_empty() {
+        return None;
+    }
+    serve_words(&words[..4])
+}
+
+/// Whether this number of workers is said. It takes no memory.
+pub(crate) fn says_workers(said: Option<ServeWords>, workers: usize) -> bool
+    requires fits { IfSome said ServeWordsFit }
+    ensures yes { IsTrue result → workers_in said ≡ Some workers }
+    ensures no { IsFalse result → workers_in said ≢ Some workers }
     ensures few { IsTrue result → (1 ≤ workers) × (workers ≤ 64) }
 {
-    match serve_words(words) {
+    match said {
         Some(said) => said.workers == workers as u64,
         None => false,
     }

@@ -16,7 +16,7 @@ use std::test::Fail;
 use stream_server::Worker;
 
 /// How many connections each of the two workers has.
-const EACH: usize = 10;
+pub const EACH: usize = 10;
 
 /// Instead of what a client sends: the worker looked for what has expired.
 const LOOK: u64 = 3;
@@ -202,7 +202,8 @@ fn door_of<'a>(alloc: Global, nexts: &'a [AtomicU64], first: u64) -> Result<Clie
     })
 }
 
-fn nexts_of(alloc: Global, count: usize) -> Result<Vec<AtomicU64>, Fail> {
+/// What each of so many clients sends next.
+pub fn nexts_of(alloc: Global, count: usize) -> Result<Vec<AtomicU64>, Fail> {
     let mut nexts = Vec::new(alloc);
     for _ in 0..count {
         nexts.push(AtomicU64::new(NOTHING))?;
@@ -210,10 +211,11 @@ fn nexts_of(alloc: Global, count: usize) -> Result<Vec<AtomicU64>, Fail> {
     Ok(nexts)
 }
 
-type Hot<'a> = Worker<Clients<'a>, Steps, MapKeeper>;
+/// A worker whose door has clients.
+pub type Hot<'a> = Worker<Clients<'a>, Steps, MapKeeper>;
 
 /// Two workers, whose clocks never give the same moment. The first client makes the item.
-fn workers_of<'a>(
+pub fn workers_of<'a>(
     alloc: Global,
     first: &'a [AtomicU64],
     second: &'a [AtomicU64],
@@ -235,7 +237,7 @@ fn work_of(alloc: Global, worker: Option<Hot<'_>>, caller: u64) -> Result<Vec<St
 }
 
 /// The journal is judged legal, with so many entries.
-fn judge<R: Abort>(rt: &R, alloc: Global, journal: Vec<u8>, entries: u64) -> Result<(), Fail> {
+pub fn judge<R: Abort>(rt: &R, alloc: Global, journal: Vec<u8>, entries: u64) -> Result<(), Fail> {
     let mut input = source(alloc, journal, 16_384, &[])?;
     let mut output = sink(alloc, 256, 256, &[])?;
     let replayed = run_replay(alloc, 1 << 40, &mut input, &mut output);

@@ -9,7 +9,11 @@ mod gates;
 #[cfg(test)]
 mod history;
 #[cfg(test)]
+mod journals;
+#[cfg(test)]
 mod memory;
+#[cfg(test)]
+mod notes;
 #[cfg(test)]
 mod rude_peers;
 #[cfg(test)]

@@ -60,7 +60,7 @@ const CASES: [Case; 3] = [
     },
 ];
 
-fn words_of(alloc: Global, text: &str) -> Result<Vec<String>, Fail> {
+pub fn words_of(alloc: Global, text: &str) -> Result<Vec<String>, Fail> {
     let mut words = Vec::new(alloc);
     for word in text.split(' ') {
         words.push(String::from_str(alloc, word)?)?;

@@ -1,5 +1,5 @@
 -- The rows of the tables `items2` and `items`: what each column of a key and of an item is.
-use Rattle.std.specs.Prelude.{◌≡◌, ℕ, ◌<◌, ◌≤◌, ◌-◌, ◌^◌, List, [], ◌∷◌, pos, Option, Some, None, Bool, true, false, IfSome}
+use Rattle.std.specs.Prelude.{◌≡◌, ℕ, ◌<◌, ◌≤◌, ◌-◌, ◌^◌, List, [], ◌∷◌, pos, Option, Some, None, Bool, true, false, IfSome, ⊤}
 use Rattle.sqlite_value.specs.declared.value.Value.{Value}
 use Rattle.sqlite_value.specs.declared.value.Value.TheVariants.{Int, Blob}
 use Rattle.sqlite_value.specs.Order.{column}
@@ -99,6 +99,25 @@ pub record SaysOldItem (row : List Value) (item : Item) : Type 0 where
 -- a row says a key: the key is in range, and the column at this place is it
 abbrev pub SaysKey : List Value → ℕ → List ℕ → Type 0
 SaysKey row place key = KeyFits key × (column row place ≡ Blob key)
+
+-- of all rows that are shown of `cookies` there is one, with id 1 and this last cookie
+abbrev pub IsOneLast : List (List Value) → ℕ → Type 0
+IsOneLast rows last =
+    (row : List Value) × (rows ≡ row ∷ []) × IsNumberAt row 0 1 × IsNumberAt row 1 last
+
+-- what is read of a row, where there is one, is its item
+abbrev pub ReadsItem : Option (List Value) → Option Item → Type 0
+ReadsItem None None = ⊤
+ReadsItem None (Some item) = ⊥
+ReadsItem (Some row) None = ⊥
+ReadsItem (Some row) (Some item) = SaysItem row item
+
+-- what is read of a row of one column, where there is one, is its key
+abbrev pub ReadsKey : Option (List Value) → Option (List ℕ) → Type 0
+ReadsKey None None = ⊤
+ReadsKey None (Some key) = ⊥
+ReadsKey (Some row) None = ⊥
+ReadsKey (Some row) (Some key) = SaysKey row 0 key
 
 -- what a row of `items2` holds of a key and its item
 abbrev pub columns_of : List ℕ → Item → List Value

@@ -1,12 +1,13 @@
 //! What the rows of an answer say: an item, or a key; and what a row holds of both.
-ghost use Rattle.std.specs.Prelude.{◌≡◌, ◌≢◌, ◌<◌, IfOk, OnOk, OnErr};
+ghost use Rattle.std.specs.Prelude.{◌≡◌, ◌≢◌, ◌<◌, IfOk, IfSome, OnOk, OnErr};
+ghost use Rattle.asp_messages.specs.Ranges.{KeyFits};
 ghost use Rattle.session_machine.specs.Liveness as liveness;
 ghost use Rattle.sqlite_value.specs.declared.value.Value.TheVariants.{Blob};
 ghost use Rattle.sqlite_value.specs.Order.{column};
 ghost use Rattle.sqlite.specs.Values.{bound};
 ghost use Rattle.sqlite_keeper.specs.Failures.{FailsByRow, FaultMeansNone, NoValueIs};
 ghost use Rattle.sqlite_keeper.specs.Rows.{BeginsWith, IsNumberAt, LockCookieFits, LockSinceFits};
-ghost use Rattle.sqlite_keeper.specs.Rows.{SaysItem, SaysKey, SaysLock, SaysOldItem};
+ghost use Rattle.sqlite_keeper.specs.Rows.{ReadsItem, ReadsKey, SaysItem, SaysKey, SaysLock, SaysOldItem};
 ghost use Rattle.sqlite_keeper.specs.Rows.{columns_of, flag_number};
 
 use crate::failure::Failure;
@@ -44,10 +45,10 @@ const OLD_EXPIRY: usize = 6;
 pub(crate) const OLD_KEY: usize = 7;
 
 /// The place of the key in a row that has nothing else.
-pub(crate) const KEY: usize = 0;
+const KEY: usize = 0;
 
 /// The number at this place of a row.
-fn number(row: &Row, place: usize) -> Result<u64, Failure>
+pub(crate) fn number(row: &Row, place: usize) -> Result<u64, Failure>
     ensures ok { IfOk result (IsNumberAt row.now place) }
     ensures fault { FaultMeansNone result (IsNumberAt row.now place) }
 {
@@ -144,7 +145,7 @@ fn expiring(item: Item, moment: u64) -> Result<Item, Failure>
 
 /// The item of a row with the columns `body`, `minutes`, `fresh`, `cookie`, `since`, `touched`,
 /// `ends` and `expiry`.
-pub(crate) fn item(row: &Row) -> Result<Item, Failure>
+fn item(row: &Row) -> Result<Item, Failure>
     ensures item { IfOk result (SaysItem row.now) }
     ensures fault { FaultMeansNone result (SaysItem row.now) }
 {
@@ -174,6 +175,28 @@ pub(crate) fn key(row: &Row, place: usize) -> Result<Bytes, Failure>
         return Err(Failure::BadRow);
     }
     Ok(key)
+}
+
+/// The item that a row says, where there is one.
+pub(crate) fn item_of(row: Option<Row>) -> Result<Option<Item>, Failure>
+    ensures shows { IfOk result (ReadsItem row) }
+    ensures fits { IfOk result (λ item. IfSome item liveness.ItemFits) }
+{
+    match row {
+        Some(row) => Ok(Some(item(&row)?)),
+        None => Ok(None),
+    }
+}
+
+/// The key that a row of one column says, where there is one.
+pub(crate) fn key_of(row: Option<Row>) -> Result<Option<Bytes>, Failure>
+    ensures shows { IfOk result (ReadsKey row) }
+    ensures fits { IfOk result (λ key. IfSome key KeyFits) }
+{
+    match row {
+        Some(row) => Ok(Some(key(&row, KEY)?)),
+        None => Ok(None),
+    }
 }
 
 /// What a row holds of a key and its item: the columns `key`, `body`, `minutes`, `fresh`, `cookie`,

@@ -4,13 +4,15 @@ ghost use Rattle.turnstile.specs.Turns.{turnstile_terms};
 ghost use Rattle.state_store.specs.Shards.{shard_of_key};
 
 use crate::new_shards::{NewShards, open_shards};
+use crate::noted_turns::{noted_look, noted_turn};
 use crate::store_desk::StoreDesk;
 use crate::sweep::sweep_shard;
-use crate::{Note, SweepCount, SweepEnd};
+use crate::{NoNotes, Note, Noted, Notes, SweepCount, SweepEnd};
 use asp_base::{Gate, NoMemory};
 use asp_messages::{Reply, Request};
 use cookie_source::{CookieSource, FreshCookies};
 use keeper::Keeper;
+use placement::byte_hash;
 use std::alloc::Global;
 use std::snapshot::Snapshot;
 use std::sync::{Arc, Wait};
@@ -53,11 +55,7 @@ pub fn shard_of(key: &[u8], shards: u64) -> u64
     ensures shard { result ≡ shard_of_key key.now shards }
     ensures below { result < shards }
 {
-    let mut hash: u64 = 0;
-    for byte in key {
-        hash = (hash * 31 + u64::from(*byte)) % 65536;
-    }
-    hash % shards
+    byte_hash(key) % shards
 }
 
 impl<K: Keeper + Drop> Store<K> {
@@ -65,6 +63,7 @@ impl<K: Keeper + Drop> Store<K> {
     ghost use Rattle.asp_messages.specs.Ranges.{RequestFits, ReplyFits};
     ghost use Rattle.turnstile.specs.TurnRule.{end_of_places};
     ghost use Rattle.state_store.specs.StoreTurns.{IsAsked, FindsNoPlace, Meets};
+    ghost use Rattle.state_store.specs.NotedTurns.{IfPlaced, IsAskedWith, IsLookWith, IsPlacesOut};
     ghost use Rattle.state_store.specs.Sweep.{Sweeps};
     ghost use Rattle.state_store.specs.NewShards.{IsNewKeeper};
     ghost use Rattle.state_store.specs.Passes.{shards_of, first_place as store_first_place, first_cookie as store_first_cookie, last_cookie as store_last_cookie, shard_for, caller_of, passes_of, view_in, view_for, call_of, IsPassOf, IsRollOf, KnowsNothing, LocksHoldInShard, TicketsNeverFall, CallersAreBelow};
@@ -203,6 +202,77 @@ impl<K: Keeper + Drop> Store<K> {
         }
     }
 
+    /// As `ask`, and gives the entry that was left, the last of the front. The request's content is
+    /// shared with the keeper. Where there is no memory for that, no item changes and the reply is
+    /// `NoMemory`, but `CookiesOut` where no cookie was left.
+    pub fn ask_noted<R: Wait, G: Gate>(
+        &self,
+        rt: &R,
+        pass: &mut Pass<K>,
+        request: Request,
+        t: u64,
+        gate: &G,
+    ) -> Noted
+        requires pass { IsPassOf self.now pass.old }
+        requires request { RequestFits request }
+        requires moment { t ≤ 2 ^ 62 }
+        ensures pass { IsPassOf self.now pass.new }
+        ensures caller { caller_of pass.new ≡ caller_of pass.old }
+        ensures asked { IfPlaced result (IsAskedWith (call_of self.now pass.old t)
+            (shard_for self.now request.key) request (view_for self.now pass.old request.key)
+            (view_for self.now pass.new request.key)) }
+        ensures locks { LocksHoldInShard self.now pass.new }
+        ensures others { (shard : ℕ) → shard ≢ shard_for self.now request.key
+            → view_in pass.new shard ≡ view_in pass.old shard }
+        ensures no_place { IsPlacesOut result → FindsNoPlace
+            (view_for self.now pass.old request.key) (view_for self.now pass.new request.key) }
+        ensures spent { IsPlacesOut result
+            ↔ ((view_for self.now pass.new request.key).ticket ≡ end_of_places) }
+        ensures stays_spent { (view_for self.now pass.old request.key).ticket ≡ end_of_places
+            → IsPlacesOut result }
+        ensures never_falls { TicketsNeverFall pass.old pass.new }
+    {
+        let shard = shard_of(request.key.as_slice(), self.turnstiles.len() as u64);
+        let turns = &self.turnstiles[shard as usize];
+        let part = &mut pass.passes[shard as usize];
+        noted_turn(rt, turns, part, shard, request, t, gate)
+    }
+
+    /// One turn in this shard, in which the item is removed that expired first at the moment `t`,
+    /// in milliseconds, at most 2^62; and the entry that was left, the last of the front.
+    /// `PlacesOut` is answered as by `ask`; where there is no memory for the look its entry says
+    /// so.
+    pub fn sweep_turn<R: Wait, G: Gate>(
+        &self,
+        rt: &R,
+        pass: &mut Pass<K>,
+        shard: u64,
+        t: u64,
+        gate: &G,
+    ) -> Noted
+        requires pass { IsPassOf self.now pass.old }
+        requires shard { shard < shards_of self.now }
+        requires moment { t ≤ 2 ^ 62 }
+        ensures pass { IsPassOf self.now pass.new }
+        ensures caller { caller_of pass.new ≡ caller_of pass.old }
+        ensures looked { IfPlaced result (IsLookWith K.told (call_of self.now pass.old t) shard
+            (view_in pass.old shard) (view_in pass.new shard)) }
+        ensures locks { LocksHoldInShard self.now pass.new }
+        ensures others { (other : ℕ) → other ≢ shard
+            → view_in pass.new other ≡ view_in pass.old other }
+        ensures no_place { IsPlacesOut result
+            → FindsNoPlace (view_in pass.old shard) (view_in pass.new shard) }
+        ensures spent { IsPlacesOut result ↔ ((view_in pass.new shard).ticket ≡ end_of_places) }
+        ensures stays_spent { (view_in pass.old shard).ticket ≡ end_of_places
+            → IsPlacesOut result }
+        ensures never_falls { TicketsNeverFall pass.old pass.new }
+    {
+        let index = shard as usize;
+        let turns = &self.turnstiles[index];
+        let part = &mut pass.passes[index];
+        noted_look(rt, turns, part, shard, t, gate)
+    }
+
     /// Removes what has expired at the moment `t`, in milliseconds, at most 2^62, shard by shard
     /// and one item a turn. It leaves a shard where nothing was left, or after 1,000 removals; a
     /// fault, want of memory and want of a place end it at once.
@@ -212,6 +282,27 @@ impl<K: Keeper + Drop> Store<K> {
         pass: &mut Pass<K>,
         t: u64,
         gate: &G,
+    ) -> SweepCount
+        requires pass { IsPassOf self.now pass.old }
+        requires moment { t ≤ 2 ^ 62 }
+        ensures pass { IsPassOf self.now pass.new }
+        ensures caller { caller_of pass.new ≡ caller_of pass.old }
+        ensures sweeps { Sweeps K.told (call_of self.now pass.old t) (shards_of self.now)
+            (view_in pass.old) (view_in pass.new) result }
+        ensures locks { LocksHoldInShard self.now pass.new }
+        ensures never_falls { TicketsNeverFall pass.old pass.new }
+    {
+        self.sweep_noted(rt, pass, t, gate, &NoNotes)
+    }
+
+    /// As `sweep`, and tells `notes` of each entry that it leaves.
+    pub fn sweep_noted<R: Wait, G: Gate, N: Notes>(
+        &self,
+        rt: &R,
+        pass: &mut Pass<K>,
+        t: u64,
+        gate: &G,
+        notes: &N,
     ) -> SweepCount
         requires pass { IsPassOf self.now pass.old }
         requires moment { t ≤ 2 ^ 62 }
@@ -232,6 +323,7 @@ impl<K: Keeper + Drop> Store<K> {
                 at as u64,
                 t,
                 gate,
+                notes,
             );
             removed += part.removed;
             if !part.end.goes_on() {

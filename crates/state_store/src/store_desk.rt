@@ -1,8 +1,8 @@
 //! A desk, which is a shard and its drawer, and the notes with which its turns are left.
-ghost use Rattle.std.specs.Prelude.{◌≡◌, ◌≤◌, ◌<◌, ◌+◌, ◌++◌, ◌∷◌, [], ◌^◌, ℕ, List, length};
+ghost use Rattle.std.specs.Prelude.{◌≡◌, ◌≢◌, ◌≤◌, ◌<◌, ◌+◌, ◌++◌, ◌∷◌, [], ◌^◌, ℕ, List, length, IfOk};
 ghost use Rattle.std.specs.Arc.{arc_value};
 ghost use Rattle.asp_base.specs.Causes.{Rose};
-ghost use Rattle.asp_messages.specs.Ranges.{RequestFits, ReplyFits};
+ghost use Rattle.asp_messages.specs.Ranges.{KeyFits, RequestFits, ReplyFits};
 ghost use Rattle.session_machine.specs.declared.entry.Entry.{Entry as AnEntry};
 ghost use Rattle.session_machine.specs.History.{DrawFits, HasPlace};
 ghost use Rattle.cookie_source.specs.Source.{source_id, drawer_home};
@@ -11,6 +11,7 @@ ghost use Rattle.shard_core.specs.Sweeping.{swept_entry};
 ghost use Rattle.turnstile.specs.TurnRule.{end_of_places};
 ghost use Rattle.turnstile.specs.declared.stands.TurnTerms.{TurnTerms};
 
+use asp_base::NoMemory;
 use asp_messages::{Ask, Reply, Request};
 use cookie_source::{CookieSource, Drawer};
 use keeper::Keeper;
@@ -63,7 +64,7 @@ impl<K: Keeper> Stands for StoreDesk<K> {
 impl<K: Keeper> StoreDesk<K> {
     ghost use Rattle.std.specs.Prelude.{All, ◌↔◌, None};
     ghost use Rattle.cookie_source.specs.Source.{drawn_by, word_seen, last_of, first_of};
-    ghost use Rattle.shard_core.specs.Sweeping.{HasDue};
+    ghost use Rattle.shard_core.specs.Sweeping.{HasDue, IfRemoved};
     ghost use Rattle.shard_core.specs.Acting.{IsOutOfCookies};
     ghost use Rattle.state_store.specs.Desks.{HasEntries, drawn_at};
 
@@ -143,6 +144,72 @@ impl<K: Keeper> StoreDesk<K> {
         }
     }
 
+    /// The turn of a request for which there was no memory before it: no item changes, and an
+    /// acquire draws its cookie all the same.
+    fn forgo<R>(&mut self, rt: &R, request: &Request, t: u64) -> ActedInStore
+        requires request { RequestFits request.now }
+        requires moment { t ≤ 2 ^ 62 }
+        ensures fits { ReplyFits result.reply }
+        ensures place { HasPlace result.reply }
+        ensures drawn { DrawFits request.now.ask result.drawn }
+        ensures out { result.reply ≡ Reply.CookiesOut
+            ↔ IsOutOfCookies request.now.ask result.drawn }
+        ensures no_memory { result.reply ≢ Reply.CookiesOut → result.reply ≡ Reply.NoMemory }
+
+        // Behind each history that the desk stands for, the request's entry makes a history that it
+        // stands for.
+        ensures stands { (terms : TurnTerms) (caller : ℕ) (list : List AnEntry)
+            → caller < 2 ^ 63 → terms.first_place + length list < end_of_places
+            → HasEntries ⟦<K as Keeper>⟧ terms list self.old
+            → HasEntries ⟦<K as Keeper>⟧ terms
+            (list ++ asked_entry caller t request.now result.drawn result.reply result.faults ∷ [])
+            self.new }
+    {
+        let drawn = self.draw_for(rt, &request.ask);
+        let reply = self.shard.forgo(request, t, drawn);
+        let faults = self.shard.faults();
+        ActedInStore {
+            reply,
+            drawn,
+            faults,
+        }
+    }
+
+    /// Answers a request, of which another owner is moved into the keeper, where there was memory
+    /// for it.
+    pub(crate) fn act_on_shared<R>(
+        &mut self,
+        rt: &R,
+        request: &Request,
+        shared: Result<Request, NoMemory>,
+        t: u64,
+    ) -> ActedInStore
+        requires request { RequestFits request.now }
+        requires shared { IfOk shared (λ other. other ≡ request.now) }
+        requires moment { t ≤ 2 ^ 62 }
+        ensures fits { ReplyFits result.reply }
+        ensures place { HasPlace result.reply }
+        ensures drawn { DrawFits request.now.ask result.drawn }
+        ensures out { result.reply ≡ Reply.CookiesOut
+            ↔ IsOutOfCookies request.now.ask result.drawn }
+        ensures fault { result.reply ≡ Reply.KeeperFault
+            → Rose (K.count self.old.shard) result.faults }
+
+        // Behind each history that the desk stands for, the request's entry makes a history that it
+        // stands for.
+        ensures stands { (terms : TurnTerms) (caller : ℕ) (list : List AnEntry)
+            → caller < 2 ^ 63 → terms.first_place + length list < end_of_places
+            → HasEntries ⟦<K as Keeper>⟧ terms list self.old
+            → HasEntries ⟦<K as Keeper>⟧ terms
+            (list ++ asked_entry caller t request.now result.drawn result.reply result.faults ∷ [])
+            self.new }
+    {
+        match shared {
+            Ok(other) => self.act(rt, other, t),
+            Err(NoMemory) => self.forgo(rt, request, t),
+        }
+    }
+
     /// Looks for an item that has expired, and removes the one that expired first.
     pub(crate) fn sweep_one(&mut self, t: u64) -> Looked
         requires { t ≤ 2 ^ 62 }
@@ -160,6 +227,7 @@ impl<K: Keeper> StoreDesk<K> {
             → TellsSame ⟦<K as Keeper>⟧ self.old.shard self.new.shard }
         ensures fault { result.found ≡ Swept.KeeperFault
             → Rose (K.count self.old.shard) result.faults }
+        ensures key { IfRemoved result.found KeyFits }
     {
         let found = self.shard.sweep_one(t);
         let faults = self.shard.faults();
@@ -169,7 +237,7 @@ impl<K: Keeper> StoreDesk<K> {
 
 /// What a note is of.
 #[derive(Drop)]
-pub enum Noted {
+pub enum NoteSubject {
     /// A request and its reply.
     Asked(Snapshot<Request>, Snapshot<Reply>),
     /// A look for an expired item.
@@ -181,7 +249,7 @@ pub enum Noted {
 pub struct Note {
     caller: u64,
     moment: u64,
-    noted: Noted,
+    subject: NoteSubject,
     drawn: u64,
     faults: u64,
 }
@@ -192,7 +260,7 @@ impl Model for Note {
 
     ghost Value = { Entry };
 
-    ghost view = { λ n. entry_noted n.caller n.moment n.noted n.drawn n.faults };
+    ghost view = { λ n. entry_noted n.caller n.moment n.subject n.drawn n.faults };
 }
 
 impl Note {
@@ -210,7 +278,7 @@ impl Note {
         Note {
             caller,
             moment,
-            noted: Noted::Asked(request, Snapshot::of(reply)),
+            subject: NoteSubject::Asked(request, Snapshot::of(reply)),
             drawn,
             faults,
         }
@@ -223,7 +291,7 @@ impl Note {
         Note {
             caller,
             moment,
-            noted: Noted::Swept(Snapshot::of(swept)),
+            subject: NoteSubject::Swept(Snapshot::of(swept)),
             drawn: 0,
             faults,
         }

@@ -4,7 +4,7 @@ ghost use Rattle.std.specs.Prelude.{◌≡◌, ◌≤◌, ◌^◌, [], All, leng
 ghost use Rattle.asp_messages.specs.Ranges.{AskFits, ReplyFits, RequestFits};
 ghost use Rattle.turnstile.specs.TurnRule.{end_of_places};
 ghost use Rattle.state_store.specs.NewShards.{IsNewKeeper};
-ghost use Rattle.state_store.specs.Passes.{first_place as store_first_place, passes_of, IsPassOf, IsRollOf};
+ghost use Rattle.state_store.specs.Passes.{first_place as store_first_place, passes_of, shards_of, IsPassOf, IsRollOf};
 
 use asp_base::{Bytes, NoMemory, OpenGate};
 use asp_messages::{Ask, Request};
@@ -60,6 +60,7 @@ pub(crate) fn open<K: Keeper + Drop, R>(
     requires shards { (1 ≤ length keepers.items) × (length keepers.items ≤ 64) }
     requires keepers { All (IsNewKeeper K.told K.count) keepers.items }
     requires place { first_place ≤ end_of_places }
+    ensures shards { IfOk result (λ f. shards_of f.store ≡ length keepers.items) }
     ensures place { IfOk result (λ f. store_first_place f.store ≡ first_place) }
     ensures roll { IfOk result (λ f. IsRollOf f.store f.roll) }
     ensures no_pass { IfOk result (λ f. passes_of f.roll ≡ 0) }

@@ -15,6 +15,8 @@ mod histories;
 #[cfg(test)]
 mod keepers;
 #[cfg(test)]
+mod noted;
+#[cfg(test)]
 mod sharding;
 #[cfg(test)]
 mod shards;

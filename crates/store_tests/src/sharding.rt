@@ -1,4 +1,5 @@
-//! Which shard has a key.
+//! Which shard has a key, and which server of a farm.
+use placement::{identifier_in, server_of};
 use state_store::shard_of;
 
 #[test]
@@ -16,4 +17,21 @@ fn keys_spread_over_shards(rt: HostRuntime) {
     ] {
         assert_eq!(rt; shard_of(key, shards), shard);
     }
+}
+
+#[test]
+fn identifiers_spread_over_servers(rt: HostRuntime) {
+    for (key, servers, server) in [
+        (b"/s/b".as_slice(), 3, 2),
+        (b"/s/ab".as_slice(), 3, 0),
+        (b"/s".as_slice(), 2, 1),
+        (b"/r".as_slice(), 2, 0),
+        (b"s".as_slice(), 2, 1),
+        (b"/s/".as_slice(), 64, 0),
+        (b"".as_slice(), 64, 0),
+        (b"/other/s".as_slice(), 64, 51),
+    ] {
+        assert_eq!(rt; server_of(key, servers), server);
+    }
+    assert!(rt; identifier_in(b"/LM/W3SVC/1/ROOT(q)/id") == b"id".as_slice());
 }

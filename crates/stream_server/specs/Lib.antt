@@ -4,6 +4,7 @@ pub mod Connections
 pub mod Doors
 pub mod DoorInMemory
 pub mod Meeting
+pub mod Owing
 pub mod ServiceMoments
 pub mod WorkerPasses
 pub mod StreamProgress

@@ -10,9 +10,9 @@ mod seating;
 mod tcp_door;
 mod worker;
 
-pub use all_workers::{Served, serve_all};
+pub use all_workers::{Served, serve_all, serve_all_noted};
 pub use door::{Conn, Door, StreamEnd};
 pub use memory_door::{GivenBack, MemoryDoor};
-pub use one_stream::serve_stream;
+pub use one_stream::{serve_stream, serve_stream_noted};
 pub use tcp_door::TcpDoor;
 pub use worker::Worker;

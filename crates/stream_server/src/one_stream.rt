@@ -1,4 +1,5 @@
-//! One stream: pieces are read, each whole message is answered, and its reply is written.
+//! One stream: pieces are read, each whole message is answered, its reply is written, and its entry
+//! told of.
 ghost use Rattle.std.specs.Prelude.{◌≡◌, ◌<◌, ◌≤◌, ◌^◌, [], List, ℕ, length, OnOk, OnErr, IsTrue, IsFalse};
 ghost use Rattle.asp_base.specs.Causes.{HasCause, Rose};
 ghost use Rattle.asp_base.specs.Outside.{Gives, IsAtEnd, Takes, TakesFront};
@@ -11,6 +12,7 @@ ghost use Rattle.state_store.specs.Passes.{IsPassOf, shards_of, caller_of, view_
 ghost use Rattle.stream_core.specs.Whole.{IfFit};
 ghost use Rattle.stream_server.specs.Callers.{caller_with};
 ghost use Rattle.stream_server.specs.Connections.{line_of};
+ghost use Rattle.stream_server.specs.Owing.{CanBeNoted, reply_owed};
 ghost use Rattle.stream_server.specs.StreamProgress.{AnswersOne, AnswersHeld, AnswersInPart, EndsBadly};
 ghost use Rattle.stream_server.specs.Streams.{IsBadIfUnfit, IsServedStream, LeavesIn, asked_for};
 
@@ -19,9 +21,9 @@ use asp_base::{
     Clock, Failed, FixedText, Gate, MOST_INPUT, MOST_PIECE, NoMemory, Piece, Sink, Source,
     read_piece, write_text,
 };
-use asp_messages::{Message, Reply, reply_body, reply_head};
+use asp_messages::{Message, Reply, Request, reply_body, reply_head};
 use keeper::Keeper;
-use state_store::{Pass, Store};
+use state_store::{NoNotes, Noted, Notes, Pass, Placed, Store};
 use std::alloc::Global;
 use std::rt::Clock as HostTime;
 use std::sync::Wait;
@@ -73,35 +75,122 @@ enum Stop {
     WriteFault,
 }
 
-/// The reply to a message at the moment `t`. The store is asked for each that is a request.
-fn reply_to<R: Wait, K: Keeper + Drop, G: Gate>(
+/// What is owed for a message: a reply, with its entry where somebody is to be told of it.
+#[derive(Drop)]
+enum Owed {
+    /// The reply of a request that had a place, in its entry.
+    Placed(Placed),
+    /// A reply of whose entry nobody is told, or that has none.
+    Reply(Reply),
+}
+
+impl Owed {
+    /// The reply.
+    fn reply(&self) -> &Reply
+        ensures { result.now ≡ reply_owed self.now }
+    {
+        match self {
+            Owed::Placed(placed) => &placed.entry.reply,
+            Owed::Reply(reply) => reply,
+        }
+    }
+}
+
+/// What is owed for a request at the moment `t`, with its entry.
+fn ask_noted<R: Wait, K: Keeper + Drop, G: Gate>(
+    rt: &R,
+    store: &Store<K>,
+    pass: &mut Pass<K>,
+    request: Request,
+    t: u64,
+    gate: &G,
+) -> Owed
+    requires pass { IsPassOf store.now pass.old }
+    requires request { RequestFits request }
+    requires moment { t ≤ 2 ^ 62 }
+    ensures pass { IsPassOf store.now pass.new }
+    ensures caller { caller_of pass.new ≡ caller_of pass.old }
+    ensures fits { ReplyFits (reply_owed result) }
+    ensures leaves { (shard : ℕ) → LeavesIn (caller_of pass.old)
+        (asked_for (shards_of store.now) shard (Message.Fit request) t (reply_owed result))
+        (view_in pass.old shard) (view_in pass.new shard) }
+    ensures noted { CanBeNoted result }
+{
+    match store.ask_noted(rt, pass, request, t, gate) {
+        Noted::Placed(placed) => Owed::Placed(placed),
+        Noted::PlacesOut => Owed::Reply(Reply::PlacesOut),
+    }
+}
+
+/// What is owed for a request at the moment `t`, without its entry.
+fn ask_plainly<R: Wait, K: Keeper + Drop, G: Gate>(
+    rt: &R,
+    store: &Store<K>,
+    pass: &mut Pass<K>,
+    request: Request,
+    t: u64,
+    gate: &G,
+) -> Owed
+    requires pass { IsPassOf store.now pass.old }
+    requires request { RequestFits request }
+    requires moment { t ≤ 2 ^ 62 }
+    ensures pass { IsPassOf store.now pass.new }
+    ensures caller { caller_of pass.new ≡ caller_of pass.old }
+    ensures fits { ReplyFits (reply_owed result) }
+    ensures leaves { (shard : ℕ) → LeavesIn (caller_of pass.old)
+        (asked_for (shards_of store.now) shard (Message.Fit request) t (reply_owed result))
+        (view_in pass.old shard) (view_in pass.new shard) }
+    ensures noted { CanBeNoted result }
+{
+    Owed::Reply(store.ask(rt, pass, request, t, gate).reply)
+}
+
+/// What is owed for a message at the moment `t`. The store is asked for each that is a request, and
+/// gives the entry where entries are wanted.
+fn owed_for<R: Wait, K: Keeper + Drop, G: Gate, N: Notes>(
     rt: &R,
     store: &Store<K>,
     pass: &mut Pass<K>,
     message: Message,
     t: u64,
     gate: &G,
-) -> Reply
+    notes: &N,
+) -> Owed
     requires pass { IsPassOf store.now pass.old }
     requires message { IfFit message RequestFits }
     requires moment { t ≤ 2 ^ 62 }
     ensures pass { IsPassOf store.now pass.new }
     ensures caller { caller_of pass.new ≡ caller_of pass.old }
-    ensures fits { ReplyFits result }
-    ensures unfit { IsBadIfUnfit message result }
+    ensures fits { ReplyFits (reply_owed result) }
+    ensures unfit { IsBadIfUnfit message (reply_owed result) }
     ensures leaves { (shard : ℕ) → LeavesIn (caller_of pass.old)
-        (asked_for (shards_of store.now) shard message t result)
+        (asked_for (shards_of store.now) shard message t (reply_owed result))
         (view_in pass.old shard) (view_in pass.new shard) }
+    ensures noted { CanBeNoted result }
 {
     match message {
-        Message::Fit(request) => store.ask(rt, pass, request, t, gate).reply,
-        Message::Unfit => Reply::Bad,
+        Message::Fit(request) => {
+            if notes.wants() {
+                return ask_noted(rt, store, pass, request, t, gate);
+            }
+            ask_plainly(rt, store, pass, request, t, gate)
+        }
+        Message::Unfit => Owed::Reply(Reply::Bad),
     }
 }
 
-/// Answers the message that was taken last at the moment that the clock gives next, and writes the
-/// reply.
-fn answer<R: Wait + HostTime, K: Keeper + Drop, T: Sink, C: Clock, G: Gate>(
+/// Tells of the entry, where there is one.
+fn tell<R: Wait, N: Notes>(rt: &R, notes: &N, owed: Owed)
+    requires { CanBeNoted owed }
+{
+    if let Owed::Placed(placed) = owed {
+        notes.take(rt, placed);
+    }
+}
+
+/// Answers the message that was taken last at the moment that the clock gives next, writes the
+/// reply, and then tells of the entry, also where the sink failed.
+fn answer<R: Wait + HostTime, K: Keeper + Drop, T: Sink, C: Clock, G: Gate, N: Notes>(
     rt: &R,
     store: &Store<K>,
     pass: &mut Pass<K>,
@@ -111,6 +200,7 @@ fn answer<R: Wait + HostTime, K: Keeper + Drop, T: Sink, C: Clock, G: Gate>(
     text: &mut ReplyBuffer,
     clock: &mut C,
     gate: &G,
+    notes: &N,
 ) -> Result<(), Failed>
     requires pass { IsPassOf store.now pass.old }
     requires message { IfFit message RequestFits }
@@ -126,13 +216,16 @@ fn answer<R: Wait + HostTime, K: Keeper + Drop, T: Sink, C: Clock, G: Gate>(
     ensures reader { stream.new.reader ≡ stream.old.reader }
 {
     let t = clock.now(rt);
-    let reply = reply_to(rt, store, pass, message, t, gate);
-    let head = stream.answer(&reply);
-    write_text(sink, text, head.as_slice(), reply_body(&reply))
+    let owed = owed_for(rt, store, pass, message, t, gate, notes);
+    let reply = owed.reply();
+    let head = stream.answer(reply);
+    let written = write_text(sink, text, head.as_slice(), reply_body(reply));
+    tell(rt, notes, owed);
+    written
 }
 
 /// Answers each whole message that is held, one after the other.
-fn answer_held<R: Wait + HostTime, K: Keeper + Drop, T: Sink, C: Clock, G: Gate>(
+fn answer_held<R: Wait + HostTime, K: Keeper + Drop, T: Sink, C: Clock, G: Gate, N: Notes>(
     rt: &R,
     store: &Store<K>,
     pass: &mut Pass<K>,
@@ -141,6 +234,7 @@ fn answer_held<R: Wait + HostTime, K: Keeper + Drop, T: Sink, C: Clock, G: Gate>
     text: &mut ReplyBuffer,
     clock: &mut C,
     gate: &G,
+    notes: &N,
 ) -> Stop
     requires pass { IsPassOf store.now pass.old }
     requires whole { IsFalse stream.old.reader.is_broken }
@@ -170,7 +264,7 @@ fn answer_held<R: Wait + HostTime, K: Keeper + Drop, T: Sink, C: Clock, G: Gate>
     loop {
         match stream.next() {
             Next::Message(message) => match answer(
-                rt, store, pass, stream, message, sink, text, clock, gate,
+                rt, store, pass, stream, message, sink, text, clock, gate, notes,
             ) {
                 Ok(()) => {}
                 Err(Failed) => return Stop::WriteFault,
@@ -200,8 +294,17 @@ fn end_badly<T: Sink>(sink: &mut T, text: &mut ReplyBuffer) -> StreamEnd
 ///
 /// The clock is read once for each whole message. The store is asked under the pass for each
 /// message that is a request; any other is answered `Bad`. Where the input is broken one last `Bad`
-/// is written. `Closed` comes exactly where the source ended and all bytes read are whole messages.
-pub fn serve_stream<R: Wait + HostTime, S: Source, T: Sink, K: Keeper + Drop, C: Clock, G: Gate>(
+/// is written. `notes` is told of each entry that was left, behind its reply. `Closed` comes exactly
+/// where the source ended and all bytes read are whole messages.
+pub fn serve_stream_noted<
+    R: Wait + HostTime,
+    S: Source,
+    T: Sink,
+    K: Keeper + Drop,
+    C: Clock,
+    G: Gate,
+    N: Notes,
+>(
     rt: &R,
     alloc: Global,
     store: &Store<K>,
@@ -210,6 +313,7 @@ pub fn serve_stream<R: Wait + HostTime, S: Source, T: Sink, K: Keeper + Drop, C:
     sink: &mut T,
     clock: &mut C,
     gate: &G,
+    notes: &N,
 ) -> StreamEnd
     requires pass { IsPassOf store.now pass.old }
     ensures pass { IsPassOf store.now pass.new }
@@ -239,7 +343,17 @@ pub fn serve_stream<R: Wait + HostTime, S: Source, T: Sink, K: Keeper + Drop, C:
             Piece::ReadFault => return StreamEnd::ReadFault,
             Piece::NoMemory => return StreamEnd::NoMemory,
         }
-        match answer_held(rt, store, pass, &mut stream, sink, &mut text, clock, gate) {
+        match answer_held(
+            rt,
+            store,
+            pass,
+            &mut stream,
+            sink,
+            &mut text,
+            clock,
+            gate,
+            notes,
+        ) {
             Stop::More => {}
             Stop::Broken => {
                 if left == 0 {
@@ -252,4 +366,30 @@ pub fn serve_stream<R: Wait + HostTime, S: Source, T: Sink, K: Keeper + Drop, C:
         }
     }
     StreamEnd::Long
+}
+
+/// As `serve_stream_noted`, and tells nobody.
+pub fn serve_stream<R: Wait + HostTime, S: Source, T: Sink, K: Keeper + Drop, C: Clock, G: Gate>(
+    rt: &R,
+    alloc: Global,
+    store: &Store<K>,
+    pass: &mut Pass<K>,
+    source: &mut S,
+    sink: &mut T,
+    clock: &mut C,
+    gate: &G,
+) -> StreamEnd
+    requires pass { IsPassOf store.now pass.old }
+    ensures pass { IsPassOf store.now pass.new }
+    ensures caller { caller_of pass.new ≡ caller_of pass.old }
+
+    // The bytes taken are messages and a rest, each message was answered, and what is owed for
+    // them was written.
+    ensures served { IsServedStream
+        (line_of S.Source T.Sink source.old sink.old)
+        (line_of S.Source T.Sink source.new sink.new)
+        (caller_with store.now pass.old (C.told clock.old))
+        (caller_with store.now pass.new (C.told clock.new)) result }
+{
+    serve_stream_noted(rt, alloc, store, pass, source, sink, clock, gate, &NoNotes)
 }

@@ -4,10 +4,10 @@ ghost use Rattle.state_store.specs.Passes.{IsPassOf, caller_of};
 ghost use Rattle.stream_server.specs.Services.{HasShift};
 ghost use Rattle.stream_server.specs.Workers.{HasPassOf, HasWorked, HaveWorked, means_of, post_with};
 
-use crate::{Door, serve_stream};
+use crate::{Door, serve_stream_noted};
 use asp_base::{Clock, Failed, Gate};
 use keeper::Keeper;
-use state_store::{Pass, Store, StoreDesk};
+use state_store::{Notes, Pass, Store, StoreDesk};
 use std::alloc::Global;
 use std::rt::Clock as HostTime;
 use std::sync::Wait;
@@ -50,7 +50,8 @@ impl<D, C, K: Keeper> Worker<D, C, K> {
 /// Serves the connections of a door, one after the other, gives each back, and sweeps once after
 /// each, at the moment that the clock gives next. It goes on whatever the end of a connection or of
 /// a sweep was, until no connection is to come, or the door failed; it answers whether it failed.
-fn serve_door<R: Wait + HostTime, D: Door, C: Clock, K: Keeper + Drop, G: Gate>(
+/// `notes` is told of each entry that was left.
+fn serve_door<R: Wait + HostTime, D: Door, C: Clock, K: Keeper + Drop, G: Gate, N: Notes>(
     rt: &R,
     alloc: Global,
     store: &Store<K>,
@@ -58,6 +59,7 @@ fn serve_door<R: Wait + HostTime, D: Door, C: Clock, K: Keeper + Drop, G: Gate>(
     clock: &mut C,
     pass: &mut Pass<K>,
     gate: &G,
+    notes: &N,
 ) -> bool
     requires pass { IsPassOf store.now pass.old }
     ensures pass { IsPassOf store.now pass.new }
@@ -72,7 +74,7 @@ fn serve_door<R: Wait + HostTime, D: Door, C: Clock, K: Keeper + Drop, G: Gate>(
         match door.next(rt) {
             Ok(Some(conn)) => {
                 let mut conn = conn;
-                let end = serve_stream(
+                let end = serve_stream_noted(
                     rt,
                     alloc,
                     store,
@@ -81,10 +83,11 @@ fn serve_door<R: Wait + HostTime, D: Door, C: Clock, K: Keeper + Drop, G: Gate>(
                     &mut conn.output,
                     clock,
                     gate,
+                    notes,
                 );
                 door.done(conn, end);
                 let t = clock.now(rt);
-                store.sweep(rt, pass, t, gate);
+                store.sweep_noted(rt, pass, t, gate, notes);
             }
             Ok(None) => return false,
             Err(Failed) => return true,
@@ -94,12 +97,13 @@ fn serve_door<R: Wait + HostTime, D: Door, C: Clock, K: Keeper + Drop, G: Gate>(
 }
 
 /// Serves the connections of the worker's door under the worker's pass.
-fn serve_worker<R: Wait + HostTime, D: Door, C: Clock, K: Keeper + Drop, G: Gate>(
+fn serve_worker<R: Wait + HostTime, D: Door, C: Clock, K: Keeper + Drop, G: Gate, N: Notes>(
     rt: &R,
     alloc: Global,
     store: &Store<K>,
     worker: &mut Worker<D, C, K>,
     gate: &G,
+    notes: &N,
 )
     requires { HasPassOf store.now worker.old.pass }
     ensures { HasWorked (means_of D.Door C.Clock)
@@ -114,6 +118,7 @@ fn serve_worker<R: Wait + HostTime, D: Door, C: Clock, K: Keeper + Drop, G: Gate
             &mut worker.clock,
             pass,
             gate,
+            notes,
         );
         worker.failed = failed;
     }
@@ -127,7 +132,8 @@ pub(crate) fn serve_part<
     C: Clock + Send,
     K: Keeper + Drop + Send,
     G: Gate + Sync,
->(rt: &R, alloc: Global, store: &Store<K>, workers: &mut [Worker<D, C, K>], gate: &G)
+    N: Notes + Sync,
+>(rt: &R, alloc: Global, store: &Store<K>, workers: &mut [Worker<D, C, K>], gate: &G, notes: &N)
     requires { All (λ w. HasPassOf store.now w.pass) workers.old }
     ensures as_long { length workers.new ≡ length workers.old }
     ensures worked { HaveWorked (means_of D.Door C.Clock)
@@ -141,6 +147,6 @@ pub(crate) fn serve_part<
         requires { HasPassOf store.now worker.now.pass }
         ensures { HasWorked (means_of D.Door C.Clock)
             store.entry.now worker.entry.now worker.exit.now }
-    { serve_worker(rt, alloc, store, worker, gate) };
+    { serve_worker(rt, alloc, store, worker, gate, notes) };
     for_each_mut(rt, workers, threads, &serve);
 }

@@ -1,10 +1,12 @@
 -- Byte strings are read as they are judged.
-use Rattle.std.proofs.Common.{◌≡◌, ℕ, ◌+◌, ◌/◌, ◌%◌, true, List, [], ◌∷◌, length, Some, Ok, refl, ◌∙◌, arith}
-use Rattle.std.specs.Prelude.{◌&&◌, ◌==◌, ◌≤◌, ◌<◌, nat_le, drop, slice_index}
+use Rattle.std.proofs.Common.{◌≡◌, ℕ, ◌+◌, ◌/◌, ◌%◌, true, false, List, [], ◌∷◌, length, Result, Some, Ok, Err, refl, sym, ap, ◌∙◌, arith}
+use Rattle.std.specs.Prelude.{◌&&◌, ◌==◌, ◌≤◌, ◌<◌, nat_le, take, drop, slice_index, MatchResult, ⊤}
 use Rattle.std.specs.List.{list_all}
 use Rattle.std.proofs.lemmas.Bool.{and_parts}
+use Rattle.std.proofs.lemmas.List.{length-take-le}
 use Rattle.std.proofs.lemmas.Bool.Decides.{nat_tests}
-use Rattle.hex.specs.Hex.{decode_of, decode_pairs, hex_digit_value}
+use Rattle.hex.specs.Hex.{decode_of, decode_pairs, decode_sized, hex_digit_value}
+use Rattle.hex.specs.declared.error.FromHexError.{FromHexError}
 use Rattle.hex.proofs.HexLemmas.{decode_of-even}
 use Rattle.visit_command.specs.VisitWords.{is_digit, are_digits, digit_value, bytes_of_digits, byte_string}
 
@@ -56,3 +58,41 @@ string_read (x ∷ digits) bytes most some first good decoded =
     let is = decoded_is digits bytes most good decoded in
     let test : x == 120 ≡ true = grind (arith, nat_tests) in
     (rw (test, good, is.0) refl, is.1)
+
+-- digits that are read into room for as many bytes as they spell
+pub sized_decode : (digits : List ℕ) (n : ℕ) → length digits / 2 ≡ n → length digits % 2 ≡ 0
+    → list_all is_digit digits ≡ true → decode_sized digits n ≡ Ok (bytes_of_digits digits)
+sized_decode digits n fits even all =
+    let odd : (length digits % 2 == 1) ≡ false = grind (arith, nat_tests) in
+    let same : (length digits / 2 == n) ≡ true = grind (arith, nat_tests) in
+    rw (odd, same, pairs_decode 0 digits even all) refl
+
+-- a word is `x` and digits that were read into room
+pub room_read : (word digits out : List ℕ) (n most : ℕ) (read : Result ⊤ FromHexError)
+    → MatchResult (decode_sized digits n) (λ bytes. (read ≡ Ok tt) × (out ≡ bytes))
+    (λ e. read ≡ Err e)
+    → digits ≡ drop 1 word → n ≡ length digits / 2 → 0 < length word → slice_index word 0 ≡ 120
+    → are_digits (drop 1 word) most ≡ true → (read ≡ Ok tt) × (byte_string word most ≡ Some out)
+unfolding byte_string
+room_read [] digits out n most read decoded rest fits some first good = absurd (omega arith)
+room_read (x ∷ others) digits out n most read decoded rest fits some first good =
+    let parts = and_parts (nat_le (length others / 2) most && length others % 2 == 0)
+    (list_all is_digit others) good in
+    let tests = and_parts (nat_le (length others / 2) most) (length others % 2 == 0) parts.0 in
+    let even : length others % 2 ≡ 0 = grind (arith, nat_tests) in
+    let room : length others / 2 ≡ n = sym (fits ∙ ap (λ (d : List ℕ). length d / 2) rest) in
+    let sized : decode_sized digits n ≡ Ok (bytes_of_digits others) =
+    ap (λ d. decode_sized d n) rest ∙ sized_decode others n room even parts.1 in
+    let given = rw sized at decoded in
+    let test : x == 120 ≡ true = grind (arith, nat_tests) in
+    (given.0, rw (test, good) (ap Some (sym given.1)))
+
+-- there is room for the bytes
+pub room_for : (digits room : List ℕ) → are_digits digits (length room) ≡ true
+    → length (take (length digits / 2) room) ≡ length digits / 2
+room_for digits room good =
+    let parts = and_parts (nat_le (length digits / 2) (length room) && length digits % 2 == 0)
+    (list_all is_digit digits) good in
+    let tests = and_parts (nat_le (length digits / 2) (length room)) (length digits % 2 == 0)
+    parts.0 in
+    length-take-le (length digits / 2) room (grind (arith, nat_tests))

@@ -1,2 +1,2 @@
 pub mod ByteStringLemmas
-mod KeyLemmas
+pub mod PortLemmas

@@ -1,2 +1,3 @@
+pub mod ServerPorts
 pub mod Top
 pub mod VisitWords

@@ -1,6 +1,6 @@
--- The words of `visit PORT KEY NEED ENDING`. Those behind the port are spelled as in a `page` line
+-- The words of `visit PORT KEY NEED ENDING`. Those behind the ports are spelled as in a `page` line
 -- of a page script.
-use Rattle.std.specs.Prelude.{ℕ, ◌+◌, ◌-◌, ◌*◌, ◌/◌, ◌%◌, ◌<◌, ◌≤◌, List, [], ◌∷◌, length, codes, slice_index, Option, Some, None, Bool, ◌&&◌, ◌||◌, ◌==◌, nat_le, nat_lt, if◌then◌else◌}
+use Rattle.std.specs.Prelude.{ℕ, ◌+◌, ◌-◌, ◌*◌, ◌/◌, ◌%◌, List, [], ◌∷◌, length, codes, slice_index, Option, Some, None, Bool, ◌&&◌, ◌||◌, ◌==◌, nat_le, if◌then◌else◌}
 use Rattle.std.specs.List.{list_all}
 use Rattle.std.specs.Str.{bytes_eq}
 use Rattle.asp_base.specs.Numbers.{number_of}
@@ -12,6 +12,7 @@ use Rattle.visit_core.specs.declared.visit_terms.Need.{Need}
 use Rattle.visit_core.specs.declared.visit_terms.Need.TheVariants.{Exclusive, ReadOnly, Off}
 use Rattle.visit_core.specs.Terms.{EndingFits}
 use Rattle.visit_command.specs.declared.visit_words.PageWords.{PageWords}
+use Rattle.visit_command.specs.ServerPorts.{IsPort, port_for, ports_of, positive}
 
 -- ---- byte strings
 
@@ -41,15 +42,6 @@ byte_string (letter ∷ digits) most =
     if letter == 120 && are_digits digits most then Some (bytes_of_digits digits) else None
 
 -- ---- the words
-
--- the number, where there is one, is not 0
-abbrev pub positive : Option ℕ → Option ℕ
-positive (Some n) = if nat_lt 0 n then Some n else None
-positive None = None
-
--- a port is from 1 to 65,535
-abbrev pub port_of : List ℕ → Option ℕ
-port_of word = positive (number_of word 65535)
 
 -- the list, where there is one, is not empty
 abbrev pub some_bytes : Option (List ℕ) → Option (List ℕ)
@@ -95,6 +87,12 @@ ending_of (name ∷ minutes ∷ body ∷ []) =
     else None
 ending_of words = None
 
+-- the port of the server that has the session, where the ports and the key are there
+abbrev pub port_of_server : Option (List ℕ) → Option (List ℕ) → Option ℕ
+port_of_server (Some ports) (Some key) = Some (port_for ports key)
+port_of_server (Some ports) None = None
+port_of_server None key = None
+
 -- the page, where each of its parts is there
 abbrev pub page_of :
     Option ℕ → Option (List ℕ) → Option Need → Option Ending → Option PageWords
@@ -104,9 +102,10 @@ page_of port key need ending = None
 
 -- what the words say
 unfoldable pub visit_of : List (List ℕ) → Option PageWords
-visit_of (name ∷ port ∷ key ∷ need ∷ ending) =
+visit_of (name ∷ ports ∷ key ∷ need ∷ ending) =
     if bytes_eq name (codes "visit")
-    then page_of (port_of port) (key_of key) (need_of need) (ending_of ending)
+    then page_of (port_of_server (ports_of ports) (key_of key)) (key_of key) (need_of need)
+    (ending_of ending)
     else None
 visit_of words = None
 
@@ -117,6 +116,6 @@ port_in None = None
 
 -- each length and number is in its range
 pub record PageWordsFit (page : PageWords) : Type 0 where
-  pub port : (0 < page.port) × (page.port ≤ 65535)
+  pub port : IsPort page.port
   pub key : KeyFits page.key
   pub ending : EndingFits page.ending

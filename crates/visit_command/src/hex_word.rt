@@ -1,5 +1,5 @@
 //! A word that spells bytes by hexadecimal digits, judged without memory and read.
-ghost use Rattle.std.specs.Prelude.{◌≡◌, ◌≤◌, IfOk, IfSome, is_some, length};
+ghost use Rattle.std.specs.Prelude.{◌≡◌, ◌≤◌, IfOk, IfSome, MatchOption, Some, None, is_some, length};
 ghost use Rattle.std.specs.List.{list_all};
 ghost use Rattle.visit_command.specs.VisitWords.{is_digit, are_digits, byte_string};
 
@@ -45,5 +45,25 @@ pub fn read_hex_word(alloc: Global, word: &[u8], most: usize) -> Result<Option<B
     match hex::decode(alloc, digits) {
         Ok(bytes) => Ok(Some(Bytes::adopt(bytes))),
         Err(_) => Err(NoMemory),
+    }
+}
+
+/// The bytes that the word spells, read into the room, as many as fit it; `None` exactly where it
+/// spells none. It takes no memory.
+#[tactic(auto, unfolding(crate::specs::VisitWords::byte_string))]
+pub fn byte_string_in<'a>(word: &[u8], room: &'a mut [u8]) -> Option<&'a [u8]>
+    ensures { MatchOption result (byte_string word.now (length room.old) ≡ None)
+        (λ bytes. byte_string word.now (length room.old) ≡ Some bytes.now) }
+{
+    let [letter, digits @ ..] = word else {
+        return None;
+    };
+    if *letter != b'x' || !are_digits(digits, room.len()) {
+        return None;
+    }
+    let bytes = &mut room[..digits.len() / 2];
+    match hex::decode_to_slice(digits, bytes) {
+        Ok(()) => Some(bytes),
+        Err(_) => None,
     }
 }

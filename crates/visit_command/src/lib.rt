@@ -2,6 +2,7 @@
 #![tactic(auto)]
 
 mod hex_word;
+mod server_port;
 mod visit_outcome;
 mod visit_words;
 

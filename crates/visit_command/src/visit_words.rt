@@ -1,10 +1,11 @@
 //! The words of `visit`.
-ghost use Rattle.std.specs.Prelude.{◌≡◌, ◌<◌, ◌≤◌, is_some, map, string_bytes, IfOk, IfSome, length};
+ghost use Rattle.std.specs.Prelude.{◌≡◌, Some, None, is_some, map, string_bytes, IfOk, IfSome, MatchOption, length};
 ghost use Rattle.asp_messages.specs.Ranges.{KeyFits, MinutesFit};
 ghost use Rattle.visit_core.specs.Terms.{EndingFits};
-ghost use Rattle.visit_command.specs.VisitWords.{port_of, key_of, need_of, minutes_of, bare_ending, ending_of, visit_of, port_in, PageWordsFit};
+ghost use Rattle.visit_command.specs.VisitWords.{key_of, need_of, minutes_of, bare_ending, ending_of, visit_of, port_in, PageWordsFit};
 
-use crate::hex_word::{is_byte_string, read_hex_word};
+use crate::hex_word::{byte_string_in, is_byte_string, read_hex_word};
+use crate::server_port::{port_for, read_ports};
 use asp_base::{Bytes, NoMemory, read_number};
 use asp_messages::{MOST_BODY, MOST_KEY, MOST_MINUTES};
 use std::alloc::Global;
@@ -13,7 +14,7 @@ use visit_core::{Ending, Need};
 /// What the words of `visit` say.
 #[derive(Debug, Drop)]
 pub struct PageWords {
-    /// The server's port on the machine itself, 1 to 65,535.
+    /// The port, on the machine itself, of the server that has the session, 1 to 65,535.
     pub port: u64,
     /// The session's key, 1 to 1,024 bytes.
     pub key: Bytes,
@@ -21,14 +22,6 @@ pub struct PageWords {
     pub need: Need,
     /// How the page ends.
     pub ending: Ending,
-}
-
-fn port_of(word: &[u8]) -> Option<u64>
-    ensures value { result ≡ port_of word.now }
-    ensures fits { IfSome result (λ port. (0 < port) × (port ≤ 65535)) }
-{
-    let port = read_number(word, u16::MAX as u64)?;
-    if port > 0 { Some(port) } else { None }
 }
 
 fn need_of(word: &str) -> Option<Need>
@@ -57,10 +50,13 @@ fn minutes_of(word: &[u8]) -> Option<u64>
     if minutes > 0 { Some(minutes) } else { None }
 }
 
-fn is_key(word: &[u8]) -> bool
-    ensures { result ≡ is_some (key_of word.now) }
+/// The key that the word spells, read into the room, without memory.
+fn key_in<'a>(word: &[u8], room: &'a mut [u8]) -> Option<&'a [u8]>
+    requires { length room.old ≡ MOST_KEY }
+    ensures { MatchOption result (key_of word.now ≡ None) (λ key. key_of word.now ≡ Some key.now) }
 {
-    word.len() > 1 && is_byte_string(word, MOST_KEY)
+    let key = byte_string_in(word, room)?;
+    if key.is_empty() { None } else { Some(key) }
 }
 
 fn read_key(alloc: Global, word: &[u8]) -> Result<Option<Bytes>, NoMemory>
@@ -124,21 +120,25 @@ fn read_ending(alloc: Global, words: &[String]) -> Result<Option<Ending>, NoMemo
     }
 }
 
-/// The port in the words of `visit PORT KEY NEED ENDING`; `None` exactly where the words are none
-/// of `visit`. They are judged without memory.
+/// The port in the words of `visit PORT KEY NEED ENDING`: of the ports in PORT, which are joined by
+/// commas, that of the server that has the session of the key. `None` exactly where the words are
+/// none of `visit`. They are judged without memory.
 #[tactic(auto, unfolding(crate::specs::VisitWords::visit_of))]
 pub fn visit_port(words: &[String]) -> Option<u64>
     ensures { result ≡ port_in (visit_of (map string_bytes words.now)) }
 {
-    let [name, port, key, need, ending @ ..] = words else {
+    let [name, ports, key, need, ending @ ..] = words else {
         return None;
     };
-    let port = port_of(port.as_bytes())?;
-    let is_page = name.as_str() == "visit"
-        && is_key(key.as_bytes())
-        && need_of(need.as_str()).is_some()
-        && is_ending(ending);
-    if is_page { Some(port) } else { None }
+    let ports = read_ports(ports.as_bytes())?;
+    let mut room = [0u8; MOST_KEY];
+    let key = key_in(key.as_bytes(), &mut room)?;
+    let is_page = name.as_str() == "visit" && need_of(need.as_str()).is_some() && is_ending(ending);
+    if is_page {
+        Some(port_for(&ports, key))
+    } else {
+        None
+    }
 }
 
 /// What the words of `visit` say; `None` exactly where they are none. The only error is want of
@@ -148,13 +148,13 @@ pub fn read_visit(alloc: Global, words: &[String]) -> Result<Option<PageWords>, 
     ensures value { IfOk result (λ page. page ≡ visit_of (map string_bytes words.now)) }
     ensures fits { IfOk result (λ page. IfSome page PageWordsFit) }
 {
-    let [name, port, key, need, ending @ ..] = words else {
+    let [name, ports, key, need, ending @ ..] = words else {
         return Ok(None);
     };
     if name.as_str() != "visit" {
         return Ok(None);
     }
-    let Some(port) = port_of(port.as_bytes()) else {
+    let Some(ports) = read_ports(ports.as_bytes()) else {
         return Ok(None);
     };
     let Some(key) = read_key(alloc, key.as_bytes())? else {
@@ -167,7 +167,7 @@ pub fn read_visit(alloc: Global, words: &[String]) -> Result<Option<PageWords>, 
         return Ok(None);
     };
     Ok(Some(PageWords {
-        port,
+        port: port_for(&ports, key.as_slice()),
         key,
         need,
         ending,

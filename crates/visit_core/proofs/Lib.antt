@@ -1,3 +1,4 @@
+pub mod EventLemmas
 pub mod PastLemmas
 pub mod ReleaseLemmas
 pub mod StepLemmas

@@ -1,5 +1,5 @@
 -- What a visit is about, and the ranges of its lengths and numbers.
-use Rattle.std.specs.Prelude.{ℕ, ◌+◌, ◌*◌, ◌≤◌, ◌<◌, List, ⊤}
+use Rattle.std.specs.Prelude.{ℕ, ◌+◌, ◌*◌, ◌≤◌, ◌<◌, List, Bool, true, false, Option, Some, None, ⊤}
 use Rattle.asp_messages.specs.Ranges.{BodyFits, MinutesFit, ReplyFits}
 use Rattle.visit_core.specs.declared.visit_terms.Need.{Need}
 use Rattle.visit_core.specs.declared.visit_terms.Limits.{Limits}
@@ -35,6 +35,11 @@ abbrev pub EndingFits : Ending → Type 0
 EndingFits (Save body minutes) = BodyFits body × MinutesFit minutes
 EndingFits Keep = ⊤
 EndingFits Abandon = ⊤
+
+-- the ending of a page, which its caller keeps until the page ended
+abbrev pub kept_ending : Bool → Ending → Option Ending
+kept_ending true ending = None
+kept_ending false ending = Some ending
 
 -- each length and number of the reply is in its range
 abbrev pub HeardFits : Heard → Type 0

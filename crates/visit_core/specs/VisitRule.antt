@@ -2,7 +2,7 @@
 -- state. (Polling, the forced release and the requests at a page's end are those of ASP.NET's
 -- SessionStateModule; the limit on polls, the outcomes, and what follows the answers that its
 -- documentation leaves open are this project's own.)
-use Rattle.std.specs.Prelude.{◌≡◌, ◌≢◌, ℕ, ◌+◌, ◌<◌, List, [], ◌∷◌, ◌++◌, reverse, Option, Some, None, Bool, true, false, nat_le, nat_lt, if◌then◌else◌, ⊤}
+use Rattle.std.specs.Prelude.{◌≡◌, ◌≢◌, ℕ, ◌+◌, ◌<◌, max, List, [], ◌∷◌, ◌++◌, reverse, Option, Some, None, Bool, true, false, nat_le, nat_lt, if◌then◌else◌, ⊤}
 use Rattle.asp_messages.specs.declared.request.Request.{Request}
 use Rattle.asp_messages.specs.declared.request.Ask.{Ask}
 use Rattle.asp_messages.specs.declared.request.Ask.TheVariants.{Read, Acquire, Release, Write, Remove, Reset}
@@ -47,6 +47,13 @@ has_ended [] = false
 has_ended (heard t request answer ∷ past) = has_ended past
 has_ended (ended ending ∷ past) = true
 has_ended (lost ∷ past) = has_ended past
+
+-- the latest moment at which an answer was heard, 0 before the first
+abbrev pub latest_answer : List Event → ℕ
+latest_answer [] = 0
+latest_answer (heard t request answer ∷ past) = max t (latest_answer past)
+latest_answer (ended ending ∷ past) = latest_answer past
+latest_answer (lost ∷ past) = latest_answer past
 
 -- the cookie that an acquisition was answered with
 abbrev pub cookie_found : Ask → Heard → Option ℕ

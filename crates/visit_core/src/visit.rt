@@ -1,10 +1,10 @@
 //! A visit, from its first ask to its outcome.
-ghost use Rattle.std.specs.Prelude.{◌≡◌, ◌≤◌, ◌<◌, ◌^◌, ℕ, ◌++◌, ◌∷◌, [], List};
+ghost use Rattle.std.specs.Prelude.{◌≡◌, ◌≤◌, ◌<◌, ◌^◌, ◌+◌, ℕ, ◌++◌, ◌∷◌, [], List, false};
 ghost use Rattle.asp_messages.specs.Ranges.{KeyFits};
 ghost use Rattle.asp_messages.specs.declared.request.Request.{Request};
 ghost use Rattle.visit_core.specs.Terms.{VisitTerms, LimitsFit, EndingFits, HeardFits, most_requests};
 ghost use Rattle.visit_core.specs.Acts.{action_of, send, wait_until, ActFits, IsSend, IsToRun};
-ghost use Rattle.visit_core.specs.VisitRule.{Event, heard, ended, lost, act_of};
+ghost use Rattle.visit_core.specs.VisitRule.{Event, heard, ended, lost, act_of, has_ended, latest_answer};
 ghost use Rattle.visit_core.specs.Stages.{HasPast, IsAsking, VisitSends, Runs, steps_left, StageFits};
 ghost use Rattle.visit_core.specs.Tables.{LockFits, lock_met, answered, meets_lock, hears_answer, hears_release, hears};
 
@@ -80,6 +80,15 @@ impl Visit {
         ensures runs { IsToRun (action_of result) → Runs self.now }
         ensures waits { (u : ℕ) → action_of result ≡ wait_until u
             → steps_left self.now u < steps_left self.now t }
+
+        // It waits for at most one poll behind the last answer.
+        ensures until { (u : ℕ) → action_of result ≡ wait_until u → (past : List Event)
+            → HasPast self.now past
+            → u ≤ latest_answer past + self.now.terms.limits.poll_ms }
+
+        // No page runs that has ended.
+        ensures unended { IsToRun (action_of result) → (past : List Event)
+            → HasPast self.now past → has_ended past ≡ false }
     {
         match &self.stage {
             Stage::Asking { from } if t < *from => Act::WaitUntil(*from),

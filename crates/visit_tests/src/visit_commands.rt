@@ -102,12 +102,17 @@ const CASES: [Case; 9] = [
 ];
 
 // Words that are none of `visit`.
-const OTHERS: [&str; 14] = [
+const OTHERS: [&str; 19] = [
     "",
     "visit",
     "visits 42424 x2f73 exclusive keep",
     "visit 0 x2f73 exclusive keep",
     "visit 65536 x2f73 exclusive keep",
+    "visit 42424, x2f73 exclusive keep",
+    "visit ,42424 x2f73 exclusive keep",
+    "visit 42424,,42425 x2f73 exclusive keep",
+    "visit 42424,0 x2f73 exclusive keep",
+    "visit 42424,65536 x2f73 exclusive keep",
     "visit 42424 x exclusive keep",
     "visit 42424 x2F73 exclusive keep",
     "visit 42424 x2f7 exclusive keep",
@@ -119,9 +124,12 @@ const OTHERS: [&str; 14] = [
     "visit 42424 x2f73 exclusive save 20 31",
 ];
 
-const ONES: [(&str, u64); 4] = [
+const ONES: [(&str, u64); 7] = [
     ("visit 042424 x2f73 exclusive keep", 42424),
     ("visit 1 x00 readonly abandon", 1),
+    ("visit 42424,42425 x2f73 exclusive keep", 42425),
+    ("visit 42424,42425 x2f72 exclusive keep", 42424),
+    ("visit 42424,42425,42426 x2f732f6162 off keep", 42424),
     ("visit 65535 x2f73 off keep", 65535),
     ("visit 42424 x2f73 exclusive save 525600 x", 42424),
 ];
@@ -311,5 +319,24 @@ fn words_are_those_of_a_page_line(rt: HostRuntime) -> Result<(), Fail> {
         let words = split(alloc, text)?;
         assert_eq!(rt; visit_port(&words), Some(*port), "{text}");
     }
+    Ok(())
+}
+
+/// The port of a visit to `/s` among the ports from 1 to this one.
+fn port_among(alloc: Global, last: u64) -> Result<Option<u64>, Fail>
+    requires { last ≤ 100 }
+{
+    let mut text = String::from_str(alloc, "visit 1")?;
+    for port in 2..last + 1 {
+        text.push_str(&format!(in alloc; ",{port}")?)?;
+    }
+    text.push_str(" x2f73 exclusive keep")?;
+    Ok(visit_port(&split(alloc, &text)?))
+}
+
+#[test]
+fn sixty_four_ports_are_read_and_no_more(rt: HostRuntime) -> Result<(), Fail> {
+    assert_eq!(rt; port_among(rt.alloc(), 64)?, Some(52));
+    assert_eq!(rt; port_among(rt.alloc(), 65)?, None);
     Ok(())
 }

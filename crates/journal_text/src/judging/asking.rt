@@ -7,7 +7,7 @@ ghost use Rattle.session_machine.specs.Liveness.{ItemFits};
 ghost use Rattle.session_machine.specs.Machine.{Circumstances};
 ghost use Rattle.session_machine.specs.Verdicts.{changed};
 ghost use Rattle.journal_text.specs.JudgingChecker.{item_among};
-ghost use Rattle.journal_text.specs.JudgingDeeds.{IsBarred, IsDone, IsLeft, ItemsFit, LeavesOf, ReplacesItem};
+ghost use Rattle.journal_text.specs.JudgingDeeds.{IsBarred, IsDone, IsLeft, ItemsFit, LeavesOf, ReplacesItem, StaysWhereWrong};
 
 use super::Why;
 use super::replies::{is_refusal, wrong_reply};
@@ -75,6 +75,7 @@ fn ask_there(
     requires item { ItemFits item.old }
     ensures left { IfOk result (LeavesOf profile item.old item.new request
         (record { moment = t; drawn = drawn; rose = rose }) reply) }
+    ensures stays { IfOk result (StaysWhereWrong item.old item.new) }
     ensures fits { ItemFits item.new }
     ensures err { OnErr result (item.new ≡ item.old) }
 {
@@ -124,6 +125,40 @@ fn change_absent(
     Ok(())
 }
 
+/// A request where the session has no item.
+fn ask_absent(
+    alloc: Global,
+    profile: Profile,
+    items: &mut BTreeMap<Bytes, Item>,
+    request: Request,
+    t: u64,
+    drawn: u64,
+    rose: bool,
+    reply: Reply,
+) -> Result<Option<Why>, NoMemory>
+    requires moment { t ≤ 2 ^ 62 }
+    requires request { RequestFits request }
+    requires drawn { DrawFits request.ask drawn }
+    requires absent { item_among items.old.entries request.key ≡ None }
+    requires fits { ItemsFit items.old.entries }
+    ensures asked { let at : Circumstances = record { moment = t; drawn = drawn; rose = rose } in
+        IfOk result (λ why. MatchOption why
+        (IsDone profile items.old.entries items.new.entries (Asked request) at reply)
+        (IsBarred profile items.old.entries (Asked request) at reply)) }
+    ensures stays { IfOk result (λ why. IfSome why
+        (λ _. items.new.entries ≡ items.old.entries)) }
+    ensures fits { ItemsFit items.new.entries }
+    ensures err { OnErr result (items.new.entries ≡ items.old.entries) }
+{
+    let verdict = decide(None, t, &request, drawn, profile);
+    let refused = is_refusal(&reply);
+    let wrong = wrong_reply(reply, verdict.kind, None, rose)?;
+    if wrong.is_none() && !refused {
+        change_absent(alloc, items, request, verdict.change)?;
+    }
+    Ok(wrong)
+}
+
 /// A request, by one look-up of its item.
 pub fn take_request(
     alloc: Global,
@@ -143,17 +178,13 @@ pub fn take_request(
         IfOk result (λ why. MatchOption why
         (IsDone profile items.old.entries items.new.entries (Asked request) at reply)
         (IsBarred profile items.old.entries (Asked request) at reply)) }
+    ensures stays { IfOk result (λ why. IfSome why
+        (λ _. items.new.entries ≡ items.old.entries)) }
     ensures fits { ItemsFit items.new.entries }
     ensures err { OnErr result (items.new.entries ≡ items.old.entries) }
 {
     let Some(item) = items.get_mut(&request.key) else {
-        let verdict = decide(None, t, &request, drawn, profile);
-        let refused = is_refusal(&reply);
-        let wrong = wrong_reply(reply, verdict.kind, None, rose)?;
-        if wrong.is_none() && !refused {
-            change_absent(alloc, items, request, verdict.change)?;
-        }
-        return Ok(wrong);
+        return ask_absent(alloc, profile, items, request, t, drawn, rose, reply);
     };
     match ask_there(alloc, profile, item, request, t, drawn, rose, reply)? {
         Left::Wrong(why) => Ok(Some(why)),

@@ -1,15 +1,18 @@
 //! A checker of histories.
-ghost use Rattle.std.specs.Prelude.{◌≡◌, ◌+◌, ◌<◌, ◌-◌, ◌^◌, ◌++◌, ◌∷◌, [], List, OnOk, OnErr};
+ghost use Rattle.std.specs.Prelude.{◌≡◌, ◌+◌, ◌<◌, ◌-◌, ◌^◌, ◌++◌, ◌∷◌, [], ℕ, List, OnOk, OnErr, IfOk};
 ghost use Rattle.session_machine.specs.declared.entry.Entry.{Entry};
 ghost use Rattle.session_machine.specs.History.{IsFormed};
-ghost use Rattle.journal_text.specs.JudgingChecker.{HasTaken};
-ghost use Rattle.journal_text.specs.JudgingEntries.{Judges};
+ghost use Rattle.journal_text.specs.JudgingChecker.{HasTaken, item_among, legal_front};
+ghost use Rattle.journal_text.specs.JudgingDeeds.{ItemsFit};
+ghost use Rattle.journal_text.specs.JudgingEntries.{Judges, item_before};
+ghost use Rattle.journal_text.specs.JudgingObjections.{ObjectsTo};
 
-use super::Judgement;
 use super::history_state::HistoryState;
-use asp_base::NoMemory;
-use session_machine::{Entry, Profile};
+use super::{Judgement, Objection};
+use asp_base::{Bytes, NoMemory};
+use session_machine::{Entry, Item, Profile};
 use std::alloc::Global;
+use std::collections::BTreeMap;
 use std::marker::Model;
 
 /// It takes the entries of a list in turn, and judges whether they are a legal history of its
@@ -82,6 +85,42 @@ impl Checker {
         self.verdict = self.standing.judge(self.alloc, entry, place, self.taken)?;
         self.taken += 1;
         Ok(())
+    }
+
+    /// As `take`, and tells the first entry that may not stand, if there is one by now. After
+    /// `NoMemory` nothing has changed.
+    pub fn take_telling(&mut self, entry: Entry) -> Result<Option<Objection>, NoMemory>
+        requires few { self.old.taken < 2 ^ 63 - 1 }
+        requires entry { IsFormed entry }
+        ensures taken { (list : List Entry) → HasTaken self.old list
+            → OnOk result (HasTaken self.new (list ++ entry ∷ [])) }
+        ensures told { IfOk result (ObjectsTo self.new.verdict) }
+        ensures one_more { OnOk result (self.new.taken ≡ self.old.taken + 1) }
+        ensures first_place { self.new.first_place ≡ self.old.first_place }
+        ensures profile { self.new.known.profile ≡ self.old.known.profile }
+        ensures err { OnErr result (self.new ≡ self.old) }
+    {
+        if let Some(objection) = self.verdict.objection()? {
+            self.taken += 1;
+            return Ok(Some(objection));
+        }
+        let place = self.first_place + self.taken;
+        let verdict = self.standing.judge(self.alloc, entry, place, self.taken)?;
+        let told = verdict.objection()?;
+        self.verdict = verdict;
+        self.taken += 1;
+        Ok(told)
+    }
+
+    /// The items behind the entries taken, up to the first that may not stand. It takes no memory.
+    pub fn map(&self) -> &BTreeMap<Bytes, Item>
+        ensures items { result.now.entries ≡ self.now.known.items }
+        ensures fits { ItemsFit result.now.entries }
+        ensures map { (list : List Entry) → HasTaken self.now list → (key : List ℕ)
+            → item_among result.now.entries key ≡ item_before self.now.known.profile
+            (legal_front self.now.first_place self.now.verdict list) key }
+    {
+        self.standing.items()
     }
 
     /// The profile whose rules are checked.

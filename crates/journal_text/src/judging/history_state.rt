@@ -1,14 +1,15 @@
 //! What is known behind a legal history, and whether an entry may stand next.
-ghost use Rattle.std.specs.Prelude.{◌≡◌, ◌⊎◌, ℕ, ◌+◌, ◌-◌, ◌<◌, ◌≤◌, ◌^◌, ◌++◌, ◌∷◌, [], List, length, IfOk, IsFalse, IsTrue, MatchOption, OnErr, false};
+ghost use Rattle.std.specs.Prelude.{◌≡◌, ◌⊎◌, ℕ, ◌+◌, ◌-◌, ◌<◌, ◌≤◌, ◌^◌, ◌++◌, ◌∷◌, [], List, length, IfOk, IfSome, IsFalse, IsTrue, MatchOption, OnErr, false};
 ghost use Rattle.asp_messages.specs.declared.reply.Reply.TheVariants.{Done};
 ghost use Rattle.session_machine.specs.declared.entry.Deed.TheVariants.{Expired};
 ghost use Rattle.session_machine.specs.declared.entry.Entry.{Entry};
-ghost use Rattle.session_machine.specs.History.{DeedFits, IsFormed, IsLegalIn, nothing};
+ghost use Rattle.session_machine.specs.History.{DeedFits, IsDead, IsFormed, IsLegalIn, nothing};
 ghost use Rattle.session_machine.specs.Machine.{Circumstances};
 ghost use Rattle.session_machine.specs.Profiles.{newest};
-ghost use Rattle.journal_text.specs.JudgingChecker.{KnowsHistory, KnowsWhileLegal};
+ghost use Rattle.journal_text.specs.JudgingChecker.{KnowsHistory, item_among, legal_front};
 ghost use Rattle.journal_text.specs.JudgingDeeds.{IsBarred, IsDone, ItemsFit};
-ghost use Rattle.journal_text.specs.JudgingEntries.{IsReason, Judges};
+ghost use Rattle.journal_text.specs.JudgingEntries.{IsNotDead, IsReason, Judges};
+ghost use Rattle.journal_text.specs.JudgingObjections.{IsIllegal};
 
 use super::asking::take_request;
 use super::replies::{has_risen, wrong_reply};
@@ -46,6 +47,18 @@ impl Model for HistoryState {
     ghost invariant = { λ s. ItemsFit s.items.entries };
 }
 
+/// Whether the key has an item that had expired.
+fn has_expired(items: &BTreeMap<Bytes, Item>, key: &Bytes, t: u64) -> bool
+    requires { ItemsFit items.now.entries }
+    ensures yes { IsTrue result → IsDead (item_among items.now.entries key.now) t }
+    ensures no { IsFalse result → IsNotDead (item_among items.now.entries key.now) t }
+{
+    match items.get(key) {
+        Some(item) => !live(item, t),
+        None => false,
+    }
+}
+
 /// An expiry: the item that had expired is removed. It is the same in every profile.
 fn expire(items: &mut BTreeMap<Bytes, Item>, key: &Bytes, t: u64) -> Option<Why>
     requires fits { ItemsFit items.old.entries }
@@ -53,12 +66,14 @@ fn expire(items: &mut BTreeMap<Bytes, Item>, key: &Bytes, t: u64) -> Option<Why>
         MatchOption result
         (IsDone newest items.old.entries items.new.entries (Expired key.now) at Done)
         (IsBarred newest items.old.entries (Expired key.now) at Done) }
+    ensures stays { IfSome result (λ _. items.new.entries ≡ items.old.entries) }
     ensures fits { ItemsFit items.new.entries }
 {
-    match items.remove(key) {
-        Some(item) if !live(&item, t) => None,
-        _ => Some(Why::NotDue),
+    if !has_expired(items, key, t) {
+        return Some(Why::NotDue);
     }
+    items.remove(key);
+    None
 }
 
 /// The deed of the entry that comes next. `rose` is whether the count of faults rose with it.
@@ -79,6 +94,8 @@ fn act(
         IfOk result (λ why. MatchOption why
         (IsDone profile items.old.entries items.new.entries deed at reply)
         (IsBarred profile items.old.entries deed at reply)) }
+    ensures stays { IfOk result (λ why. IfSome why
+        (λ _. items.new.entries ≡ items.old.entries)) }
     ensures fits { ItemsFit items.new.entries }
     ensures err { OnErr result (items.new.entries ≡ items.old.entries) }
 {
@@ -118,7 +135,16 @@ impl HistoryState {
         self.profile
     }
 
-    /// Why the entry may not stand next, or `None` where it may, which is then known too.
+    /// The items that there are.
+    pub fn items(&self) -> &BTreeMap<Bytes, Item>
+        ensures items { result.now.entries ≡ self.now.items }
+        ensures fits { ItemsFit result.now.entries }
+    {
+        &self.items
+    }
+
+    /// Why the entry may not stand next, and then nothing changes, or `None` where it may, which is
+    /// then known too.
     fn admit(&mut self, alloc: Global, entry: Entry) -> Result<Option<Why>, NoMemory>
         requires { IsFormed entry }
         ensures admitted { (before : List Entry) → IsLegalIn self.old.profile nothing 0 before
@@ -127,6 +153,7 @@ impl HistoryState {
             (IsLegalIn self.old.profile nothing 0 (before ++ entry ∷ [])
             × KnowsHistory self.new (before ++ entry ∷ []))
             (IsReason self.old.profile before entry)) }
+        ensures stays { IfOk result (λ why. IfSome why (λ _. self.new ≡ self.old)) }
         ensures profile { self.new.profile ≡ self.old.profile }
         ensures err { OnErr result (self.new ≡ self.old) }
     {
@@ -170,7 +197,8 @@ impl HistoryState {
         }
     }
 
-    /// The judgement of `taken` legal entries and this one, which has the place `place`.
+    /// The judgement of `taken` legal entries and this one, which has the place `place`. An entry
+    /// that may not stand changes nothing.
     pub fn judge(
         &mut self,
         alloc: Global,
@@ -185,7 +213,8 @@ impl HistoryState {
             → IsLegalIn self.old.profile nothing 0 before → KnowsHistory self.old before
             → IfOk result (λ judgement.
             Judges self.old.profile first_place (before ++ entry ∷ []) judgement
-            × KnowsWhileLegal judgement self.new (before ++ entry ∷ [])) }
+            × KnowsHistory self.new (legal_front first_place judgement (before ++ entry ∷ []))) }
+        ensures stays { IfOk result (λ judgement. IsIllegal judgement → self.new ≡ self.old) }
         ensures profile { self.new.profile ≡ self.old.profile }
         ensures err { OnErr result (self.new ≡ self.old) }
     {

@@ -3,7 +3,7 @@ ghost use Rattle.std.specs.Prelude.{◌≡◌, ◌⊎◌, ◌+◌, ◌-◌, ◌<
 ghost use Rattle.asp_base.specs.Limits.{most_piece};
 ghost use Rattle.plain_words.specs.Words.{HasNo, SplitsAt};
 ghost use Rattle.journal_text.specs.WritingText.{PlaceFits, EntryFits, head_words, entry_words, most_journal_line};
-ghost use Rattle.journal_text.specs.ReadingText.{IsNoLine, Taken, IsJournalOf, StopsAt, JournalReading, most_journal_held, new_reader, reading_fed, reading_waiting, reading_broken, TakesLine, TakesEntry, HasRead};
+ghost use Rattle.journal_text.specs.ReadingText.{IsNoLine, Taken, IsJournalOf, StopsAt, JournalReading, most_journal_held, new_reader, reading_fed, reading_waiting, reading_broken, TakesLine, TakesEntry, HasRead, BeginsWith, BeginsWithEntry};
 ghost use Rattle.journal_text.specs.ReadingAnswers.{IfHead, IfEntry, IfNotAJournal, taken_with};
 
 use super::journal_line::{read_entry, read_head};
@@ -173,6 +173,10 @@ impl JournalReader {
             → result ≡ JournalNext.NotAJournal self.old.offset }
 
         ensures no_memory { result ≡ JournalNext.NoMemory → self.new ≡ self.old }
+
+        // There is memory for a first line.
+        ensures no_memory_begun { result ≡ JournalNext.NoMemory → IsSome self.old.begun }
+
         ensures bound { length self.new.held ≤ most_journal_held }
 
         // It takes bytes, and adds none.
@@ -212,6 +216,73 @@ impl JournalReader {
                 }
                 None => self.break_off(),
             },
+        }
+    }
+
+    /// As `next`, but no line is taken: `pass` takes that of an entry. So what is done with an entry
+    /// can be given up for want of memory, and the line is read again.
+    pub fn look(&mut self) -> JournalNext
+        ensures head { IfHead result (λ profile place. PlaceFits place × (self.old.begun ≡ None)
+            × BeginsWith (head_words profile place) self.old × (self.new ≡ self.old)) }
+        ensures entry { IfEntry result (λ e. BeginsWithEntry e self.old × (self.new ≡ self.old)) }
+        ensures more { result ≡ JournalNext.More → self.new ≡ reading_waiting self.old }
+        ensures none_whole { result ≡ JournalNext.More
+            → IsFalse self.old.is_broken × HasNo 10 self.old.held
+            × (length self.old.held ≤ most_journal_line) }
+        ensures offset { IfNotAJournal result (λ offset. offset ≡ self.old.offset) }
+        ensures broken { IfNotAJournal result (λ _. self.new ≡ reading_broken self.old) }
+        ensures no_line { IfNotAJournal result
+            (λ _. IsTrue self.old.is_broken ⊎ IsNoLine self.old.begun self.old.held) }
+        ensures stays { IsTrue self.old.is_broken
+            → result ≡ JournalNext.NotAJournal self.old.offset }
+        ensures no_memory { result ≡ JournalNext.NoMemory → self.new ≡ self.old }
+
+        // There is memory for a first line.
+        ensures no_memory_begun { result ≡ JournalNext.NoMemory → IsSome self.old.begun }
+
+        // Nothing more of a text was taken, and where it stops, the text is no journal.
+        ensures reads { (text : List ℕ) (taken : Taken) → HasRead text taken self.old
+            → HasRead text taken self.new }
+        ensures stops { IfNotAJournal result (λ offset. (text : List ℕ) (taken : Taken)
+            → HasRead text taken self.old → StopsAt text offset) }
+    {
+        if self.is_broken {
+            return self.break_off();
+        }
+        let Some(len) = self.lines.first_line() else {
+            if self.lines.as_slice().len() > MOST_JOURNAL_LINE {
+                return self.break_off();
+            }
+            self.may_feed = true;
+            return JournalNext::More;
+        };
+        let words = &self.lines.as_slice()[..len];
+        match self.begun {
+            Some(profile) => match read_entry(self.alloc, profile, words) {
+                Ok(Some(entry)) => JournalNext::Entry(entry),
+                Ok(None) => self.break_off(),
+                Err(NoMemory) => JournalNext::NoMemory,
+            },
+            None => match read_head(words) {
+                Some((profile, place)) => JournalNext::Head { profile, place },
+                None => self.break_off(),
+            },
+        }
+    }
+
+    /// Takes the line of an entry, where `look` found one at the front of the bytes held.
+    pub fn pass(&mut self)
+        requires entry { (e : Entry) × BeginsWithEntry e self.old }
+        ensures takes { (e : Entry) → BeginsWithEntry e self.old → TakesEntry e self.old self.new }
+        ensures may_not_feed { IsFalse self.new.may_feed }
+        ensures reads { (e : Entry) → BeginsWithEntry e self.old → (text : List ℕ) (taken : Taken)
+            → HasRead text taken self.old
+            → HasRead text (taken_with (JournalNext.Entry e) taken) self.new }
+    {
+        if let Some(profile) = self.begun {
+            if let Some(len) = self.lines.first_line() {
+                self.take(len, profile);
+            }
         }
     }
 

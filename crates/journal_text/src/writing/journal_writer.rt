@@ -149,6 +149,18 @@ fn reply_has_bytes(reply: &Reply)
     }
 }
 
+/// An entry in range, whose reply tells what the profile tells, can be written: the types say that
+/// its numbers and bytes fit. The function does nothing.
+pub fn entry_fits(profile: Profile, entry: &Entry)
+    requires formed { IsFormed entry.now }
+    requires told { TellsOnly profile entry.now.reply }
+    ensures { EntryFits profile entry.now }
+{
+    let _faults = entry.faults;
+    deed_has_bytes(&entry.deed);
+    reply_has_bytes(&entry.reply);
+}
+
 /// Appends the first line of a journal of the profile whose first entry has this place. After
 /// `NoMemory` the buffer holds what it held.
 pub fn write_head(out: &mut Vec<u8>, profile: Profile, place: u64) -> Result<(), NoMemory>
@@ -172,9 +184,7 @@ pub fn write_entry(out: &mut Vec<u8>, profile: Profile, entry: &Entry) -> Result
     // What the types say of the entry's numbers and bytes, whatever the result.
     ensures fits { EntryFits profile entry.now }
 {
-    let _faults = entry.faults;
-    deed_has_bytes(&entry.deed);
-    reply_has_bytes(&entry.reply);
+    entry_fits(profile, entry);
     let len = out.len();
     let written = push_entry(out, profile, entry);
     or_undo(written, out, len)

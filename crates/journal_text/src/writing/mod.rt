@@ -2,4 +2,4 @@
 
 mod journal_writer;
 
-pub use journal_writer::{MOST_JOURNAL_LINE, spell_in, write_entry, write_head};
+pub use journal_writer::{MOST_JOURNAL_LINE, entry_fits, spell_in, write_entry, write_head};

@@ -4,7 +4,7 @@ use Rattle.visit_core.specs.declared.outcome.Outcome.TheVariants.{LinkFault}
 use Rattle.visit_core.specs.Acts.{IsToRun, over}
 use Rattle.asp_messages.specs.RequestText.{request_text}
 use Rattle.page_link.specs.Exchanges.{AsksInVain}
-use Rattle.page_link.proofs.RuleLemmas.{no_fault, runs-unended}
+use Rattle.page_link.proofs.RuleLemmas.{no_fault}
 use Rattle.page_link.proofs.TurnLemmas.{asks-fits, went-paused, went-ran, went-asked, ended-over, ended-lost, ended-bad, ended-no_memory}
 use Rattle.page_link.proofs.visit_turn.take_turn.Goals as goal
 
@@ -32,8 +32,7 @@ returns-in-Over-clause-lost g c fault =
 pub unreachable-requires : goal.unreachable-requires
 unreachable-requires g c =
     let may = c.requires.may_turn in
-    let runs = subst IsToRun (c.in-Run.ensures.act may.past may.stands) tt in
-    let some = may.left (runs-unended c.args.visit.now.terms may.past c.now-now.result runs) in
+    let some = may.left (c.in-Run.ensures.unended tt may.past may.stands) in
     let none : false ≡ true = subst IsSome (sym c.take.ensures.value ∙ c.in_default.is) some in
     cc
 

@@ -1,40 +1,28 @@
-use Rattle.std.proofs.Common.{◌≡◌, ℕ, ◌∙◌, ap, subst, sym}
-use Rattle.std.specs.Prelude.{◌⊎◌}
+use Rattle.std.proofs.Common.{◌∙◌, ap, subst}
+use Rattle.asp_messages.specs.Fields.{most_cookie}
 use Rattle.command_loop.specs.Flow.{flow}
+use Rattle.plain_desk.specs.Openings.{Opening, opening_with}
+use Rattle.plain_desk.proofs.OpeningLemmas.{fresh-empty, opening-empty}
 use Rattle.pipe_command.specs.PipeRun.{IsRun}
-use Rattle.pipe_command.proofs.CompleteLemmas.{complete_run}
-use Rattle.pipe_command.proofs.EndingLemmas.{floor_of, run_of}
 use Rattle.pipe_command.proofs.pipe_run.run_pipe.Goals as goal
 
+pub run_pipe_over-requires-clause-fresh : goal.run_pipe_over-requires-clause-fresh
+run_pipe_over-requires-clause-fresh g c =
+    fresh-empty g.K.Keeper c.args.keeper c.new-cookies.result c.requires.empty
+
 pub returns-clause-ran : goal.returns-clause-ran
-returns-clause-ran g c = (
-  c.run-end.result,
-  c.status.ensures,
-  subst (λ k. IsRun g.K.Keeper.can_count c.args.pipe
-      (flow (g.S.Source.told c.args.source.now) (g.S.Source.told c.run-end.new.source)
-      (g.T.Sink.taken c.args.sink.now) (g.T.Sink.taken c.run-end.new.sink))
-      (g.K.Keeper.told k) (g.K.Keeper.count k) c.run-end.result)
-      (sym c.into_keeper.ensures)
-      (run_of g.K.Keeper c.args.pipe c.new-responder.result c.run-end.new.consumer
-      (flow (g.S.Source.told c.args.source.now) (g.S.Source.told c.run-end.new.source)
-      (g.T.Sink.taken c.args.sink.now) (g.T.Sink.taken c.run-end.new.sink))
-      c.new-responder.ensures.pipe c.run-end.result c.run-end.ensures.ran),
-)
-
-pub returns-clause-complete : goal.returns-clause-complete
-returns-clause-complete g c = λ whole read write.
-    subst (λ (n : ℕ). (n ≡ 0) ⊎ (n ≡ 6)) (sym c.status.ensures)
-    (complete_run g.K.Keeper c.args.pipe.most c.new-responder.result c.run-end.new.consumer
-    (flow (g.S.Source.told c.args.source.now) (g.S.Source.told c.run-end.new.source)
-    (g.T.Sink.taken c.args.sink.now) (g.T.Sink.taken c.run-end.new.sink))
-    (g.S.Source.told c.args.source.now) c.run-end.result
-    (c.run-end.ensures.complete read write) whole)
-
-pub returns-clause-floor : goal.returns-clause-floor
-returns-clause-floor g c =
-    ap g.K.Keeper.floor c.into_keeper.ensures
-    ∙ floor_of g.K.Keeper c.args.pipe.most c.new-responder.result c.run-end.new.consumer
-    (flow (g.S.Source.told c.args.source.now) (g.S.Source.told c.run-end.new.source)
-    (g.T.Sink.taken c.args.sink.now) (g.T.Sink.taken c.run-end.new.sink))
-    c.run-end.result c.run-end.ensures.ran
-    ∙ ap g.K.Keeper.floor c.new-responder.ensures.keeper
+returns-clause-ran g c =
+    let ran = c.run_pipe_over.ensures.ran in (
+      ran.0,
+      ran.1,
+      subst (λ (o : Opening). IsRun g.K.Keeper.can_count
+          (record { pipe = c.args.pipe; opening = o })
+          (flow (g.S.Source.told c.args.source.now) (g.S.Source.told c.run_pipe_over.new.source)
+          (g.T.Sink.taken c.args.sink.now) (g.T.Sink.taken c.run_pipe_over.new.sink))
+          (g.K.Keeper.told c.run_pipe_over.result.keeper)
+          (g.K.Keeper.count c.run_pipe_over.result.keeper) ran.0)
+          (opening-empty g.K.Keeper c.args.keeper c.new-cookies.result c.requires.empty
+          c.requires.no_faults
+          ∙ ap (λ k. let o : Opening = record (opening_with 1 most_cookie) { cookies = k } in o)
+          c.new-cookies.ensures) ran.2,
+    )

@@ -20,8 +20,8 @@ loop-init g c = record {
 pub loop-preserved : goal.loop-preserved
 loop-preserved g c =
     let inv = c.loop.invariant in
-    let stream = c.serve_stream-end.ensures in
-    let swept = c.sweep.ensures in
+    let stream = c.serve_stream_noted-end.ensures in
+    let swept = c.sweep_noted.ensures in
     let told = g.D.Door.told in
     let store = c.args.store.now in
     let out : HandsOut (told c.loop.door) (told c.next-in-loop.new.self)
@@ -41,10 +41,10 @@ loop-preserved g c =
           (post_with (means_of g.D.Door g.C.Clock)
           store c.loop.door c.loop.clock c.loop.pass)
           (post_with (means_of g.D.Door g.C.Clock)
-          store c.done.new.self c.now-t.new.self c.sweep.new.pass)
-          (told c.next-in-loop.new.self) _ _ c.serve_stream-end.result
-          (caller_with store c.serve_stream-end.new.pass
-          (g.C.Clock.told c.serve_stream-end.new.clock))
+          store c.done.new.self c.now-t.new.self c.sweep_noted.new.pass)
+          (told c.next-in-loop.new.self) _ _ c.serve_stream_noted-end.result
+          (caller_with store c.serve_stream_noted-end.new.pass
+          (g.C.Clock.told c.serve_stream_noted-end.new.clock))
           inv.underway out c.done.ensures.back stream.served
           (record {
             number = swept.caller;
@@ -52,7 +52,7 @@ loop-preserved g c =
             first_place = refl;
             moment = c.now-t.result;
             gave = c.now-t.ensures.gives;
-            count = c.sweep.result;
+            count = c.sweep_noted.result;
             sweeps = swept.sweeps;
           });
     }

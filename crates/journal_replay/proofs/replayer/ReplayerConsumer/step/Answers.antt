@@ -18,11 +18,12 @@ returns-in-Head-clause-did c = λ is first taken given went.
             c.args.self.now.checker
             c.new.result took.1 went.0 (c.in-Head.ensures.reads taken) took.2.is_whole
             c.new.ensures.profile c.new.ensures.first_place c.new.ensures.taken,
-        none_more given c.args.self.now.line.items went.1 went.2,
+        none_more given c.args.self.now.text.items went.1 went.2,
         went.2,
+        went.3,
       ),
       none_last
-          c.args.self.now.line.items went.2,
+          c.args.self.now.text.items went.2,
     )
 
 pub returns-in-Ok-clause-did : goal.returns-in-Ok-clause-did
@@ -34,11 +35,12 @@ returns-in-Ok-clause-did c = λ is first taken given went.
             c.take.new.self took.profile took.started went.0 (c.in-Entry.ensures.reads taken)
             took.takes.is_whole c.in-Ok.ensures.profile c.in-Ok.ensures.first_place
             c.in-Ok.ensures.taken,
-        none_more given c.args.self.now.line.items went.1 went.2,
+        none_more given c.args.self.now.text.items went.1 went.2,
         went.2,
+        went.3,
       ),
       none_last
-          c.args.self.now.line.items went.2,
+          c.args.self.now.text.items went.2,
     )
 
 pub returns-in-Ok-write_stop-clause-over : goal.returns-in-Ok-write_stop-clause-over

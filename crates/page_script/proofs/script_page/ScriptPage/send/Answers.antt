@@ -18,11 +18,10 @@ returns-clause-ok g c =
 pub returns-clause-err : goal.returns-clause-err
 returns-clause-err g c =
     on_err c.push_reply-written.result
-    (λ number turns page stands desk_stands. inr
+    (λ at stands desk_stands. inr
     (sent g.K.Keeper.can_count c.args.t c.args.self.now _
     (desk_state g.K.Keeper c.args.desk.now)
     (desk_state g.K.Keeper c.answer-reply.new.desk) c.args.request
     c.answer-reply.result _ c.heard.ensures.terms c.requires.will_send
     c.heard.ensures.past refl refl c.answer-reply.ensures.fits c.answer-reply.ensures.answers tt
-    number
-    turns page stands desk_stands))
+    at stands desk_stands))

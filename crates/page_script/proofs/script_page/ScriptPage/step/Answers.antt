@@ -18,7 +18,7 @@ returns-in-WaitUntil-clause-ok g c =
     on_ok c.push_wait.result
     (λ more. quiet g.K.Keeper.can_count c.args.t c.args.self.now
     (desk_state g.K.Keeper c.args.desk.now) _ _ _ c.in-WaitUntil.ensures.act
-    (λ number ending turns. (refl, refl, refl))
+    (λ at. (refl, refl, refl))
     (line-joined c.args.out.now.items c.push_start.new.out.items c.push_wait.new.out.items _ _
     (rw c.as_slice.ensures.letters at c.in_ok-push_start.ensures.ok) more))
     c.push_wait.ensures.ok
@@ -37,7 +37,7 @@ returns-in-Over-clause-ok g c =
     on_ok c.push_over.result
     (λ more. quiet g.K.Keeper.can_count c.args.t c.args.self.now
     (desk_state g.K.Keeper c.args.desk.now) _ _ _ c.in-Over.ensures.act
-    (λ number ending turns. (refl, refl, refl))
+    (λ at. (refl, refl, refl))
     (line-joined c.args.out.now.items c.push_start.new.out.items c.push_over.new.out.items _ _
     (rw c.as_slice.ensures.letters at c.in_ok-push_start.ensures.ok) more))
     c.push_over.ensures.ok

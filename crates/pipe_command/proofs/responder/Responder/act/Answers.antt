@@ -1,7 +1,6 @@
 use Rattle.std.proofs.Common.{sym, subst, ap, refl, arith}
 use Rattle.asp_base.specs.Moments.{Ticking}
 use Rattle.asp_messages.specs.declared.request.Message.{Message}
-use Rattle.session_machine.specs.History.{nothing}
 use Rattle.pipe_command.specs.Answering.{AnswersAtMoment}
 use Rattle.pipe_command.specs.Responding.{state_of_responder}
 use Rattle.pipe_command.proofs.responder.Responder.act.Goals as goal
@@ -28,8 +27,9 @@ returns-in-Fit-clause-answers g c =
       };
       held = refl;
       replies = record {
-        history = λ first list stand.
-            c.act-acted.ensures.stands first 0 nothing 0 list (omega arith) stand;
+        history = λ opening list stand.
+            c.act-acted.ensures.stands opening.cookies.next 0 opening.items opening.count list
+            (omega arith) stand;
         last = c.act-acted.ensures.last;
       };
     })

@@ -2,7 +2,9 @@ use Rattle.std.proofs.Common.{◌≡◌, ◌++◌, ◌∷◌, [], subst}
 use Rattle.shard_core.specs.ShardStands.{asked_entry}
 use Rattle.plain_desk.specs.Draws.{draw_of, draws_in}
 use Rattle.plain_desk.specs.DeskStands.{DeskOf, DeskState, DeskStandsFor, desk_state}
+use Rattle.plain_desk.specs.Openings.{NeverBegins}
 use Rattle.plain_desk.proofs.DeskLemmas.{goes_on-asked}
+use Rattle.plain_desk.proofs.OpeningLemmas.{never-steps}
 use Rattle.plain_desk.proofs.plain_desk.PlainDesk.act.Goals as goal
 
 pub returns-clause-stands : goal.returns-clause-stands
@@ -32,3 +34,10 @@ returns-clause-stands g c = λ first caller opening count list caller_fits.
     c.act-reply.result c.draw_for-drawn.ensures.draws
     (λ fresh before. c.act-reply.ensures.history caller opening count list caller_fits fresh
     before))
+
+pub returns-clause-tells : goal.returns-clause-tells
+returns-clause-tells g c =
+    subst (λ (d : DeskOf _). NeverBegins (g.K.Keeper.told d.keeper)
+    (g.K.Keeper.told c.act-reply.new.self)) c.self.view_is
+    (never-steps (g.K.Keeper.told c.self.inside.shard) (g.K.Keeper.told c.act-reply.new.self)
+    c.args.request _ c.act-reply.result c.act-reply.ensures.acts)

@@ -1,22 +1,23 @@
 use Rattle.std.proofs.Common.{[], take, map, refl, ap, ◌∙◌}
 use Rattle.httparse.specs.Spans.{header_bytes, span_bytes}
 use Rattle.asp_messages.specs.RequestSpelling.{message_of}
-use Rattle.request_reader.specs.RequestLaws.{begins, parsed-announced}
+use Rattle.request_reader.specs.RequestHeads.{parsed-announced}
+use Rattle.request_reader.specs.RequestLaws.{begins, none-means}
 use Rattle.request_reader.proofs.request_kind.RequestsMessageKind.begin.Goals as goal
 
 pub returns-in_err-spans-clause-none : goal.returns-in_err-spans-clause-none
-returns-in_err-spans-clause-none c = λ _. c.in_err-spans.ensures.none refl
+returns-in_err-spans-clause-none c = λ _. none-means c.args.text.now (c.in_err-spans.ensures.none refl)
 
 pub returns-clause-head : goal.returns-clause-head
-returns-clause-head c = parsed-announced c.args.text.now c.parse.new.headers c.in_ok-spans.spans
+returns-clause-head c = parsed-announced c.args.text.now c.parse_head.new.headers c.in_ok-spans.spans
     c.in_ok-spans.body_len c.in_ok-spans.ensures.head
 
 pub returns-clause-means : goal.returns-clause-means
 returns-clause-means c =
     let text = c.args.text.now in
     let spans = c.in_ok-spans.spans in
-    let fields = map (header_bytes text) (take spans.headers c.parse.new.headers) in
-    begins text c.parse.new.headers spans c.in_ok-spans.body_len c.message.result
+    let fields = map (header_bytes text) (take spans.headers c.parse_head.new.headers) in
+    begins text c.parse_head.new.headers spans c.in_ok-spans.body_len c.message.result
     c.in_ok-spans.ensures.head
     (c.message.ensures ∙ ap (λ verb. message_of verb c.of-2.result.now fields []) c.of.ensures
     ∙ ap (λ target. message_of (span_bytes text spans.method) target fields []) c.of-2.ensures)

@@ -1,5 +1,6 @@
 use Rattle.std.proofs.Common.{◌++◌, Result, Ok, Err, refl, inl}
 use Rattle.std.specs.Prelude.{OnErr}
+use Rattle.page_script.specs.ScriptStands.{opening_of}
 use Rattle.script_runner.proofs.RunLemmas.{HasRun-fed}
 use Rattle.script_runner.proofs.driver.DriverConsumer.feed.Goals as goal
 
@@ -12,7 +13,7 @@ returns-clause-err g c = on_err c.feed.result c.feed.ensures.err (λ same first 
   went.1,
   (
     c.args.self.now.held ++ c.args.piece.now,
-    inl (HasRun-fed g.K.Keeper c.args.self.now.script taken c.args.self.now.held
+    inl (HasRun-fed g.K.Keeper (opening_of g.K.Keeper first.script) c.args.self.now.script taken c.args.self.now.held
         (c.args.self.now.held ++ c.args.piece.now) c.args.piece.now due went.0 refl),
   ),
 ))

@@ -1,0 +1,5 @@
+pub mod Cookies
+pub mod Requests
+pub mod Identities
+pub mod Pages
+pub mod PageLaws

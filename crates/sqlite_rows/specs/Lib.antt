@@ -1,0 +1,15 @@
+pub mod Calls
+pub mod Cookies
+pub mod Cuts
+pub mod Dues
+pub mod Firsts
+pub mod Gets
+pub mod Moves
+pub mod Numbers
+pub mod Others
+pub mod Puts
+pub mod Replaces
+pub mod Selects
+pub mod Tables
+pub mod Texts
+pub mod Uniques

@@ -1,0 +1,8 @@
+//! Journals of shards, written in the order of their places and read back.
+#![tactic(auto)]
+
+mod mirror;
+mod order;
+
+pub use mirror::{Mirror, MirrorNext};
+pub use order::{Handed, Order, Stop};
