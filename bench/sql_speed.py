@@ -4,10 +4,10 @@
 usage: bench/sql_speed.py [PROGRAM] [ROWS..]
 
 PROGRAM is ./asp_state where none is given, and the files have 1,000 and 100,000 rows where no numbers are given. All is measured
-in one run, each three times; the median is printed: 2,000 writes and reads with bodies of 100 bytes, and 20,000 reads that find
-nothing. The module makes the same statements on the same table and index, and commits each write, in its default mode and with a
-write-ahead log. Opening a file reads all its rows, so the time of a run over no messages is taken off. Outside the gate; nothing
-of it is promised.
+in one run, each three times; the median is printed: 10,000 writes and reads with bodies of 100 bytes, and 1,000,000 reads that
+find nothing. The module makes the same statements on the same table and index, 2,000 and 20,000 of them, and commits each write,
+in its default mode and with a write-ahead log. Opening a file reads all its rows, so the time of a run over no messages is taken
+off, and many messages are wanted. Outside the gate; nothing of it is promised.
 """
 import os
 import sqlite3
@@ -20,7 +20,8 @@ TOP = os.path.dirname(os.path.dirname(os.path.abspath(__file__)))
 NUMBERS = [int(word) for word in sys.argv[1:] if word.isdigit()]
 PROGRAMS = [word for word in sys.argv[1:] if not word.isdigit()]
 PROGRAM = PROGRAMS[0] if PROGRAMS else os.path.join(TOP, "asp_state")
-MESSAGES, MISSES, ROUNDS = 2_000, 20_000, 3
+MESSAGES, MISSES, ROUNDS = 10_000, 1_000_000, 3
+OF_MODULE, MISSES_OF_MODULE = 2_000, 20_000
 BODY = b"x" * 100
 TABLE = (
     "CREATE TABLE IF NOT EXISTS items2 (key BLOB PRIMARY KEY, body BLOB NOT NULL, minutes INTEGER NOT NULL, fresh INTEGER NOT NULL, "
@@ -89,7 +90,8 @@ def of_pipe(path, rows):
     opening = median(lambda: seconds_of(path, b""))
     both = b"".join(messages(MESSAGES, rows))
     none = b"".join(misses(MISSES))
-    return opening, median(lambda: seconds_of(path, both)) - opening, median(lambda: seconds_of(path, none)) - opening
+    took, nothing = median(lambda: seconds_of(path, both)), median(lambda: seconds_of(path, none))
+    return opening, MESSAGES / (took - opening), MISSES / (nothing - opening)
 
 
 def of_module(path, rows):
@@ -100,29 +102,29 @@ def of_module(path, rows):
 
     def both():
         start = time.perf_counter()
-        for k in range(MESSAGES):
+        for k in range(OF_MODULE):
             connection.execute(GET, (key_of(k, rows),)).fetchone()
             connection.execute(PUT, columns(key_of(k, rows), k))
         return time.perf_counter() - start
 
     def none():
         start = time.perf_counter()
-        for k in range(MISSES):
+        for k in range(MISSES_OF_MODULE):
             connection.execute(GET, (b"/none%d" % k,)).fetchone()
         return time.perf_counter() - start
 
-    took = median(both), median(none)
+    rates = OF_MODULE / median(both), MISSES_OF_MODULE / median(none)
     start = time.perf_counter()
     for _ in range(1000):
         connection.execute(DUE, (1_200_000,)).fetchone()
     due = (time.perf_counter() - start) / 1000
     connection.close()
-    return (opening, *took, due)
+    return (opening, *rates, due)
 
 
-def line(name, opening, both, none):
+def line(name, opening, messages_a_second, misses_a_second):
     words = "  %-36s open %7.3f s  %7.0f messages a second  %8.0f misses a second"
-    print(words % (name, opening, MESSAGES / both, MISSES / none))
+    print(words % (name, opening, messages_a_second, misses_a_second))
 
 
 def main():
@@ -131,8 +133,8 @@ def main():
             print("%d rows" % rows)
             line("asp_state pipe", *of_pipe(filled(folder, "pipe.db", rows, "delete"), rows))
             for mode in ["delete", "wal"]:
-                opening, both, none, due = of_module(filled(folder, mode + ".db", rows, mode), rows)
-                line("Python's sqlite3, journal_mode %s" % mode, opening, both, none)
+                *rates, due = of_module(filled(folder, mode + ".db", rows, mode), rows)
+                line("Python's sqlite3, journal_mode %s" % mode, *rates)
                 print("  %-36s due in %.1f microseconds" % ("", due * 1e6))
 
 

@@ -2,7 +2,7 @@
 _asp_state() {
     local word=${COMP_WORDS[COMP_CWORD]}
     local command=${COMP_WORDS[1]}
-    local commands='serve visit pipe trace replay mirror drive load gate id'
+    local commands='serve visit pipe trace replay mirror drive farm load gate id'
     if [ "$COMP_CWORD" -eq 1 ]; then
         mapfile -t COMPREPLY < <(compgen -W "$commands --help --version --build --unproved" -- "$word")
         return

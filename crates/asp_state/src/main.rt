@@ -2,6 +2,8 @@
 #![tactic(auto)]
 
 mod database_file;
+mod farm_servers;
+mod memory_keepers;
 mod serve_journals;
 mod serve_sockets;
 mod visit_socket;
@@ -9,6 +11,8 @@ mod visit_socket;
 use asp_base::status::{NO_COMMAND, NO_MEMORY};
 use asp_base::{HostSink, HostSource};
 use database_file::run_stored;
+use farm_command::farm_of;
+use farm_servers::run_farming;
 use id_gateway::{HostRandom, gateway, is_gate};
 use keeper::MapKeeper;
 use pipe_command::{command, path_of};
@@ -60,6 +64,10 @@ fn main(rt: HostRuntime) -> ExitCode {
         let random = HostRandom::new(&rt);
         let gated = gateway(alloc, &words, &mut source, &mut sink, keeper, random);
         return ExitCode::from(gated.status);
+    }
+    if let Some(servers) = farm_of(&words) {
+        let status = run_farming(alloc, servers, &words, &mut source, &mut sink);
+        return ExitCode::from(status);
     }
     let status = match path_of(&words) {
         Some(path) => run_stored(&rt, path, &words, &mut source, &mut sink),

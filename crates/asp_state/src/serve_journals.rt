@@ -1,5 +1,6 @@
 //! The command that serves and writes a journal of each shard, in new files of a folder.
-use crate::serve_sockets::{SHARDS, keepers_of, listen, workers_of};
+use crate::memory_keepers::keepers_of;
+use crate::serve_sockets::{SHARDS, listen, workers_of};
 use asp_base::status::{DONE, NO_MEMORY};
 use asp_base::{Failed, OpenGate};
 use journal_files::{NotMade, ShardFile, make_shard_files, remove_shard_files};
@@ -86,7 +87,7 @@ where
         Ok(listener) => listener,
         Err(status) => return status,
     };
-    let Some(keepers) = keepers_of(alloc) else {
+    let Some(keepers) = keepers_of(alloc, SHARDS) else {
         return NO_MEMORY;
     };
     let Some(mut workers) = workers_of(alloc, &listener, said) else {

@@ -1,0 +1,3 @@
+pub mod FarmDrive
+pub mod FarmRunning
+pub mod FarmWords

@@ -1,0 +1,4 @@
+pub mod Farm
+pub mod FarmStands
+pub mod Limited
+pub mod Shares
