@@ -24,7 +24,7 @@ use Rattle.id_gateway.specs.declared.top_call.GateVerdict.{GateVerdict}
 use Rattle.id_gateway.specs.declared.top_call.GateVerdict.TheVariants as verdicts
 use Rattle.id_gateway.specs.declared.random.Random as randoms
 use Rattle.id_gateway.specs.declared.words.GateTerms.{GateTerms}
-use Rattle.id_gateway.specs.Gate.{AllAnswered, GateEnd, GateEndsAs, GateFits, IsGateRun, IsWholePages, GateReached, GateStopsBroken, last_bad, status_number}
+use Rattle.id_gateway.specs.Gate.{AllAnswered, GateEnd, GateEndsAs, GateFits, IsGateRun, IsWholePages, GateReached, GateStopsBroken, gate_seen, last_bad, status_number}
 use Rattle.id_gateway.specs.Giving.{last_body, last_head}
 use Rattle.id_gateway.specs.Keeping.{GateBreaks, GateCloses, GateGave, GateGaveSo, HasAnsweredPages, Lacking, GateLacks, GateProgress, GateStays, GateWaits, GateWent, random_of, state_with}
 use Rattle.id_gateway.specs.Serving.{Served, texts}
@@ -133,8 +133,8 @@ module _ {K R : Type 0} (G : keepers.Ghosts K) (H : randoms.Ghosts R) where
   module _ (gate : GateTerms) (first now : Gatekeeper K R) (f : Flow) (is_gate : first.gate ≡ gate) where
     -- what the run gives
     abbrev Gives : GateEnd → Type 0
-    Gives end = IsGateRun G.can_count gate f (random_of H first.random)
-        (random_of H now.random) (G.told now.desk.keeper) (G.count now.desk.keeper) end
+    Gives end = IsGateRun G.can_count gate (gate_seen f (random_of H first.random)
+        (random_of H now.random) (G.told now.desk.keeper) (G.count now.desk.keeper)) end
 
     abbrev reached : List ℕ → ℕ → List Served → GateReached
     reached rest count served = record { flow = f; rest = rest; count = count; served = served }

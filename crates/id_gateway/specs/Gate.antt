@@ -101,32 +101,51 @@ GateEndsAs Long r = AllAnswered r.served × HasNoMessage SpellsPage r.rest
 abbrev pub IsLawfulVisit : Visited → Type 0
 IsLawfulVisit visit = IsLawful visit.terms visit.past
 
+-- What is seen of a run: the flow of its bytes, the random values to come before it and behind it,
+-- and what the keeper that is handed back tells and counts.
+pub record GateSeen : Type 0 where
+  pub flow : Flow
+  pub random : RandomState
+  pub random' : RandomState
+  pub told : Option (List ℕ → Option Item)
+  pub faults : ℕ
+
+-- the same, of its parts
+abbrev pub gate_seen : Flow → RandomState → RandomState → Option (List ℕ → Option Item) → ℕ
+    → GateSeen
+gate_seen f random random' told faults = record {
+  flow = f;
+  random = random;
+  random' = random';
+  told = told;
+  faults = faults;
+}
+
 -- A run: the bytes taken, at most the most, are page requests and a rest; draws were made for those
 -- without an identifier, and for no others; the entries are what the visits of their pages asked of
 -- the desk, from nothing on; each visit follows its rule; the keeper that is handed back has the
 -- items and the count after the entries; and the answers were written as the ending says. (CanCount
--- says which counts of faults the keeper's type can have; told and faults are what the keeper tells
--- and counts after the run.)
-pub record IsGateRun (CanCount : ℕ → Type 0) (gate : GateTerms) (f : Flow) (random random' : RandomState)
-    (told : Option (List ℕ → Option Item)) (faults : ℕ) (end : GateEnd) : Type 0 where
+-- says which counts of faults the keeper's type can have.)
+pub record IsGateRun (CanCount : ℕ → Type 0) (gate : GateTerms) (seen : GateSeen) (end : GateEnd)
+    : Type 0 where
   pub bytes : List ℕ
   pub requests : List PageRequest
   pub rest : List ℕ
   pub draws : List Draw
   pub list : List Entry
-  pub given : Gives f.source f.source' bytes
+  pub given : Gives seen.flow.source seen.flow.source' bytes
   pub within : length bytes ≤ most_input
   pub spelled : Spelled SpellsPage bytes requests rest
-  pub drew : AreDraws random draws random'
+  pub drew : AreDraws seen.random draws seen.random'
   pub drew_once : length draws ≡ draws_needed gate.mode requests
   pub served : List Served
   pub served_is : served ≡ serves gate 0 requests draws (map (λ (e : Entry). e.reply) list)
   pub asks : map said list ≡ asked 0 (events served)
   pub lawful : AllByRecursion (λ (one : Served). IfSome one.visited IsLawfulVisit) served
   pub counts : AllByRecursion (λ (e : Entry). CanCount e.faults) list
-  pub stands : StandsFor nothing 0 list told faults
+  pub stands : StandsFor nothing 0 list seen.told seen.faults
   pub ends : GateEndsAs end (record {
-    flow = f;
+    flow = seen.flow;
     rest = rest;
     count = length bytes;
     served = served;

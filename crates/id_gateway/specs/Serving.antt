@@ -57,6 +57,7 @@ without_page answer draws replies = record {
   replies = replies;
 }
 
+-- an answer without a target and a body
 abbrev pub plain_answer : Status → Option (List ℕ) → Answer
 plain_answer status new_id = record {
   status = status;
@@ -65,6 +66,7 @@ plain_answer status new_id = record {
   body = [];
 }
 
+-- the browser is sent to the same target, behind its new identifier
 abbrev pub redirect : List ℕ → List ℕ → Answer
 redirect id target = record {
   status = statuses.Found;
@@ -78,6 +80,7 @@ abbrev pub shown_by : Page → Option (List ℕ) → List ℕ
 shown_by Get (Some content) = content
 shown_by page content = []
 
+-- the answer of a page whose visit came out so: what it shows, or the outcome's spelling
 abbrev pub outcome_answer : Page → Option (List ℕ) → Option (List ℕ) → Outcome → Answer
 outcome_answer page new_id content Done = record {
   status = statuses.Ok;
@@ -92,14 +95,17 @@ outcome_answer page new_id content outcome = record {
   body = outcome_spelling outcome;
 }
 
+-- the answer of a page whose run ended so, none where it was cut off
 abbrev pub page_answer : Page → Option (List ℕ) → PageEnd → Option Answer
 page_answer page new_id (came_to outcome content) =
     Some (outcome_answer page new_id content outcome)
 page_answer page new_id cut_off = None
 
+-- what the page's visit is for: the item of the identifier, as the page needs it
 abbrev pub visit_terms : Page → List ℕ → VisitTerms
 visit_terms page id = page_terms (session_key id) (page_need page)
 
+-- what a page's run comes to
 abbrev pub visit_of : Page → Option (List ℕ) → VisitTerms → List Draw → PageRun → Serving
 visit_of page new_id terms draws run = record {
   served = record {
@@ -142,6 +148,7 @@ serve_drawn mode t request [] replies = record {
 serve_drawn mode t request (draw ∷ draws) replies =
     serve_value mode draw.value t request draws replies
 
+-- a request, by the identifier that was found in it
 abbrev pub serve_found : Option IdentityOf → Mode → ℕ → PageRequest → List Draw → List Reply
     → Serving
 serve_found None mode t request draws replies = serve_drawn mode t request draws replies
@@ -174,6 +181,7 @@ abbrev pub texts : List Served → List ℕ
 texts [] = []
 texts (one ∷ served) = text_given one.answer ++ texts served
 
+-- the events of the visit of a request's page
 abbrev pub visited_events : Option Visited → List Event
 visited_events None = []
 visited_events (Some visit) = visit.past

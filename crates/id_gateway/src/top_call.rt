@@ -3,7 +3,7 @@ ghost use Rattle.std.specs.Prelude.{◌≡◌, ◌≤◌, ◌⊎◌, ◌↔◌, 
 ghost use Rattle.asp_base.specs.Causes.{Rose};
 ghost use Rattle.keeper.specs.Items.{IsEmptyTold};
 ghost use Rattle.command_loop.specs.Flow.{flow};
-ghost use Rattle.id_gateway.specs.Gate.{GateEnd, GateFits, IsGateRun, IsWholePages, status_number};
+ghost use Rattle.id_gateway.specs.Gate.{GateEnd, GateFits, IsGateRun, IsWholePages, gate_seen, status_number};
 ghost use Rattle.id_gateway.specs.Keeping.{GateWent, random_of};
 ghost use Rattle.id_gateway.specs.Words.{gate_of};
 
@@ -55,11 +55,11 @@ fn run_keeper<S: Source, T: Sink, K: Keeper, R: Random>(
     sink: &mut T,
 ) -> RunEnd<GateVerdict>
     requires begun { GateWent ⟦<K as Keeper>⟧ ⟦<R as Random>⟧ gatekeeper.old gatekeeper.old [] [] }
-    ensures ran { IsGateRun K.can_count gatekeeper.old.gate
+    ensures ran { IsGateRun K.can_count gatekeeper.old.gate (gate_seen
         (flow (S.told source.old) (S.told source.new) (T.taken sink.old) (T.taken sink.new))
         (random_of ⟦<R as Random>⟧ gatekeeper.old.random)
         (random_of ⟦<R as Random>⟧ gatekeeper.new.random)
-        (K.told gatekeeper.new.desk.keeper) (K.count gatekeeper.new.desk.keeper) result }
+        (K.told gatekeeper.new.desk.keeper) (K.count gatekeeper.new.desk.keeper)) result }
     ensures read { result ≡ RunEnd.ReadFault → Rose (S.faults source.old) (S.faults source.new) }
     ensures write { result ≡ RunEnd.WriteFault → Rose (T.faults sink.old) (T.faults sink.new) }
     ensures source_count { S.faults source.old ≤ S.faults source.new }
@@ -87,10 +87,10 @@ fn run_gate<S: Source, T: Sink, K: Keeper, R: Random>(
     requires no_faults { K.count keeper ≡ 0 }
     requires empty { IsEmptyTold (K.told keeper) }
     ensures ran { (end : GateEnd) × (result.status ≡ status_number end)
-        × IsGateRun K.can_count gate
+        × IsGateRun K.can_count gate (gate_seen
         (flow (S.told source.old) (S.told source.new) (T.taken sink.old) (T.taken sink.new))
         (random_of ⟦<R as Random>⟧ random) (random_of ⟦<R as Random>⟧ result.random)
-        (K.told result.keeper) (K.count result.keeper) end }
+        (K.told result.keeper) (K.count result.keeper)) end }
     ensures read { result.status ≡ 4 → Rose (S.faults source.old) (S.faults source.new) }
     ensures write { result.status ≡ 5 → Rose (T.faults sink.old) (T.faults sink.new) }
     ensures source_count { S.faults source.old ≤ S.faults source.new }
@@ -136,10 +136,10 @@ pub fn gateway<S: Source, T: Sink, K: Keeper, R: Random>(
         × (result.keeper ≡ keeper) }
     ensures ran { IfSome (gate_of (map string_bytes words.now)) (λ gate. (end : GateEnd)
         × (result.status ≡ status_number end)
-        × IsGateRun K.can_count gate
+        × IsGateRun K.can_count gate (gate_seen
         (flow (S.told source.old) (S.told source.new) (T.taken sink.old) (T.taken sink.new))
         (random_of ⟦<R as Random>⟧ random) (random_of ⟦<R as Random>⟧ result.random)
-        (K.told result.keeper) (K.count result.keeper) end) }
+        (K.told result.keeper) (K.count result.keeper)) end) }
     ensures read { result.status ≡ 4 → Rose (S.faults source.old) (S.faults source.new) }
     ensures write { result.status ≡ 5 → Rose (T.faults sink.old) (T.faults sink.new) }
     ensures source_count { S.faults source.old ≤ S.faults source.new }

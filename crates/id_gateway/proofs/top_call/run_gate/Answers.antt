@@ -1,7 +1,7 @@
 use Rattle.std.proofs.Common.{subst, sym}
 use Rattle.command_loop.specs.Flow.{Flow, flow}
 use Rattle.id_gateway.specs.declared.words.GateTerms.{GateTerms}
-use Rattle.id_gateway.specs.Gate.{IsGateRun}
+use Rattle.id_gateway.specs.Gate.{IsGateRun, gate_seen}
 use Rattle.id_gateway.specs.Keeping.{random_of}
 use Rattle.id_gateway.proofs.top_call.run_gate.Goals as goal
 
@@ -14,14 +14,15 @@ returns-clause-ran g c =
     let after = c.run_keeper-end.new.gatekeeper in (
       end,
       c.status-status.ensures,
-      subst (λ k. IsGateRun g.K.Keeper.can_count c.args.gate f
+      subst (λ k. IsGateRun g.K.Keeper.can_count c.args.gate (gate_seen f
           (random_of g.R.Random c.args.random) (random_of g.R.Random after.random)
-          (g.K.Keeper.told k) (g.K.Keeper.count k) end) (sym c.into_keeper.ensures)
-          (subst (λ r. IsGateRun g.K.Keeper.can_count c.args.gate f (random_of g.R.Random r)
-          (random_of g.R.Random after.random) (g.K.Keeper.told after.desk.keeper)
-          (g.K.Keeper.count after.desk.keeper) end) c.new-gatekeeper.ensures.random
-          (subst (λ (t : GateTerms). IsGateRun g.K.Keeper.can_count t f
+          (g.K.Keeper.told k) (g.K.Keeper.count k)) end) (sym c.into_keeper.ensures)
+          (subst (λ r. IsGateRun g.K.Keeper.can_count c.args.gate (gate_seen f
+          (random_of g.R.Random r) (random_of g.R.Random after.random)
+          (g.K.Keeper.told after.desk.keeper) (g.K.Keeper.count after.desk.keeper)) end)
+          c.new-gatekeeper.ensures.random
+          (subst (λ (t : GateTerms). IsGateRun g.K.Keeper.can_count t (gate_seen f
           (random_of g.R.Random c.new-gatekeeper.result.random) (random_of g.R.Random after.random)
-          (g.K.Keeper.told after.desk.keeper) (g.K.Keeper.count after.desk.keeper) end)
+          (g.K.Keeper.told after.desk.keeper) (g.K.Keeper.count after.desk.keeper)) end)
           c.new-gatekeeper.ensures.gate c.run_keeper-end.ensures.ran)),
     )
