@@ -1,7 +1,6 @@
 -- Texts appended one after another.
-use Rattle.std.proofs.Common.{◌≡◌, ℕ, List, [], ◌∷◌, ◌++◌, Result, Ok, Err, OnErr, refl, ap, ◌∙◌, append_assoc}
+use Rattle.std.proofs.Common.{◌≡◌, ℕ, List, ◌++◌, Result, Ok, Err, OnErr, ap, ◌∙◌, append_assoc}
 use Rattle.std.specs.Prelude.{codes}
-use Rattle.hex.specs.Hex.{encode_with}
 use Rattle.asp_messages.specs.Appending.{Extends}
 use Rattle.asp_messages.specs.PlainSpelling.{◌then◌}
 
@@ -19,11 +18,3 @@ pub failed_behind : {T E : Type 0} (r : Result T E) (a b c : List ℕ) → Exten
     → OnErr r (Extends b c) → OnErr r (Extends a c)
 failed_behind (Ok x) a b c before failed = tt
 failed_behind (Err x) a b c before failed = Extends-trans a b c before failed
-
--- ---- hexadecimal digits
-
-pub encode_with-append : (digits xs ys : List ℕ)
-    → encode_with digits (xs ++ ys) ≡ encode_with digits xs ++ encode_with digits ys
-unfolding encode_with
-encode_with-append digits [] ys = refl
-encode_with-append digits (x ∷ xs) ys = rw (encode_with-append digits xs ys) refl

@@ -9,8 +9,6 @@ ghost use Rattle.asp_messages.specs.ReplyText.{http_line, number_line};
 use asp_base::NoMemory;
 use itoa::Buffer;
 
-const DIGITS: [u8; 16] = *b"0123456789abcdef";
-
 /// Appends a text. After want of memory the buffer holds what it held and maybe more.
 pub fn push(out: &mut Vec<u8>, text: &[u8]) -> Result<(), NoMemory>
     ensures ok { OnOk result (out.new.items ≡ out.old.items ++ text.now) }
@@ -43,13 +41,19 @@ pub fn push_hex(out: &mut Vec<u8>, bytes: &[u8]) -> Result<(), NoMemory>
     ensures ok { OnOk result (out.new.items ≡ out.old.items ++ encode_lower bytes.now) }
     ensures err { OnErr result (Extends out.old.items out.new.items) }
 {
-    for byte in bytes {
-        push(
-            out,
-            &[DIGITS[(byte / 16) as usize], DIGITS[(byte % 16) as usize]],
-        )?;
+    let start = out.len();
+    let Some(end) = bytes
+        .len()
+        .checked_mul(2)
+        .and_then(|len| start.checked_add(len))
+    else {
+        return Err(NoMemory);
+    };
+    out.resize(end, 0)?;
+    match hex::encode_to_slice(bytes, &mut out.as_mut_slice()[start..]) {
+        Ok(()) => Ok(()),
+        Err(_) => unreachable!(),
     }
-    Ok(())
 }
 
 /// Appends a line of a head.
