@@ -5,7 +5,7 @@ ghost use Rattle.state_mirror.specs.Ordering.{place_end};
 
 use asp_base::{NoMemory, Sink};
 use session_machine::Entry;
-use state_mirror::Order;
+use state_mirror::{Order, SpelledEntry};
 use state_store::{Notes, Placed};
 use std::alloc::Global;
 use std::marker::Model;
@@ -26,6 +26,13 @@ impl<T: Sink> ShardOrder<T> {
     {
         self.order.hand(place, entry);
     }
+
+    /// The same for an entry whose line is spelled.
+    fn hand_spelled(&mut self, place: u64, entry: SpelledEntry)
+        requires place { place < place_end }
+    {
+        self.order.hand_spelled(place, entry);
+    }
 }
 
 /// An order for each shard, each behind a lock of its own, so that a caller waits only for those
@@ -35,6 +42,7 @@ impl<T: Sink> ShardOrder<T> {
 /// the turn of the missing entry on, until the caller that left that one hands it in.
 #[derive(Drop)]
 pub struct Shelf<T> {
+    alloc: Global,
     orders: Vec<Mutex<ShardOrder<T>>>,
 }
 
@@ -58,7 +66,7 @@ impl<T: Sink + Drop> Shelf<T> {
                 order: Order::new(alloc, sink, 0),
             }))?;
         }
-        Ok(Shelf { orders })
+        Ok(Shelf { alloc, orders })
     }
 
     /// The order of the last shard that is left; `None` exactly where none is. It takes no memory.
@@ -79,7 +87,8 @@ impl<T: Sink> Notes for Shelf<T> {
         true
     }
 
-    /// Hands the entry to the order of its shard, and does nothing where there is none.
+    /// Hands the entry to the order of its shard, and does nothing where there is none. The line is
+    /// spelled before the order is waited for; where there is no memory for it the order stops.
     fn take<R: Wait>(&self, rt: &R, placed: Placed) {
         let Placed {
             shard,
@@ -87,7 +96,10 @@ impl<T: Sink> Notes for Shelf<T> {
             entry,
         } = placed;
         if let Some(order) = self.orders.get(shard as usize) {
-            order.lock(rt).hand(place, entry);
+            match SpelledEntry::new(self.alloc, entry) {
+                Ok(entry) => order.lock(rt).hand_spelled(place, entry),
+                Err(entry) => order.lock(rt).hand(place, entry),
+            }
         }
     }
 }

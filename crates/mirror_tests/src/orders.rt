@@ -6,7 +6,7 @@ ghost use Rattle.state_mirror.specs.Ordering.{place_end};
 use asp_base::{MemorySink, Sink};
 use asp_messages::Reply;
 use session_machine::{Deed, Entry};
-use state_mirror::{Handed, Order, Stop};
+use state_mirror::{Handed, Order, SpelledEntry, Stop};
 use std::alloc::Global;
 use std::test::Fail;
 
@@ -32,6 +32,16 @@ fn looked(caller: u64) -> Entry
         drawn: 0,
         reply: Reply::Done,
         faults: 0,
+    }
+}
+
+/// A look of this caller at moment 0, with its line.
+fn spelled(alloc: Global, caller: u64) -> Result<SpelledEntry, Fail>
+    requires { caller < 2 ^ 63 }
+{
+    match SpelledEntry::new(alloc, looked(caller)) {
+        Ok(entry) => Ok(entry),
+        Err(_) => Err("no memory".into()),
     }
 }
 
@@ -105,6 +115,22 @@ fn it_is_written_behind_that_and_known_then(rt: HostRuntime) -> Result<(), Fail>
     assert_eq!(rt; hand(&mut order, 0), Handed::Taken);
     assert_eq!(rt; hand(&mut order, 0), Handed::Known { place: 0 });
     assert_eq!(rt; order.stopped(), None);
+    assert_eq!(rt; order.into_sink().taken(), TWO);
+    Ok(())
+}
+
+#[test]
+fn an_entry_with_its_line_is_handed_in_among_others(rt: HostRuntime) -> Result<(), Fail> {
+    let alloc = rt.alloc();
+    let mut order = Order::new(alloc, sink(alloc, 256, &[])?, 0);
+    let entry = spelled(alloc, 1)?;
+    assert_eq!(rt; entry.line(), b"1 0 0 0 - looked : done\n".as_slice());
+    assert_eq!(rt; order.hand_spelled(1, entry), Handed::Taken);
+    assert_eq!(rt; hand(&mut order, 0), Handed::Taken);
+    assert_eq!(rt;
+        order.hand_spelled(1, spelled(alloc, 1)?),
+        Handed::Known { place: 1 }
+    );
     assert_eq!(rt; order.into_sink().taken(), TWO);
     Ok(())
 }

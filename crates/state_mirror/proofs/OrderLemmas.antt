@@ -333,6 +333,17 @@ module _ {T : Type 0} (taken : T → Option (List ℕ)) (sink : Option (List ℕ
           written = TakesFront-all sink (taken o.sink) has.text whole;
         })
 
+    -- its line was not spelled
+    pub unspelled : HasFailedWriting taken sink (handed ++ (place, e) ∷ []) o
+    unspelled = by_place (before_or_not o.next place)
+      where
+        by_place : (o.next < place) ⊎ (place ≤ o.next)
+            → HasFailedWriting taken sink (handed ++ (place, e) ∷ []) o
+        by_place (inl lt) = keeps_not o lt refl
+        by_place (inr le) = begins_not o le refl
+            (TakesFront-before (taken o.sink) (taken o.sink) [] (part_text o.first o.next e)
+            (TakesFront-all (taken o.sink) (taken o.sink) [] (Takes-nil (taken o.sink))))
+
   -- an entry is known exactly where one was handed in for its place
   pub is_known : (handed : List (ℕ × Entry)) (o : OrderState T) (place : ℕ)
       → HasOrdered taken sink handed o → o.stop ≡ None → o.first ≤ place

@@ -3,6 +3,8 @@
 
 mod mirror;
 mod order;
+mod spelled_entry;
 
 pub use mirror::{Mirror, MirrorNext};
 pub use order::{Handed, Order, Stop};
+pub use spelled_entry::SpelledEntry;

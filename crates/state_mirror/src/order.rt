@@ -1,15 +1,17 @@
 //! Entries that are handed in in any order, and written in the order of their places.
-ghost use Rattle.std.specs.Prelude.{◌≡◌, ◌≢◌, ◌↔◌, ◌+◌, ◌-◌, ◌<◌, ◌≤◌, ◌^◌, ◌++◌, ◌∷◌, [], ℕ, List, Option, None, Some, length, MatchResult, OnOk, OnErr, IfErr, IsSome, IfSome, IfNone, IsTrue, IsFalse, ◌⊎◌};
+ghost use Rattle.std.specs.Prelude.{◌≡◌, ◌≢◌, ◌↔◌, ◌+◌, ◌-◌, ◌<◌, ◌≤◌, ◌^◌, ◌++◌, ◌∷◌, [], ℕ, List, Option, None, Some, length, MatchResult, OnOk, OnErr, IfErr, IfOk, IsSome, IfSome, IfNone, IsTrue, IsFalse, ◌⊎◌};
 ghost use Rattle.asp_base.specs.Causes.{Rose};
 ghost use Rattle.asp_base.specs.Outside.{Takes, TakesFront};
 ghost use Rattle.session_machine.specs.declared.entry.Entry.{Entry as AnEntry};
 ghost use Rattle.session_machine.specs.History.{IsFormed};
 ghost use Rattle.session_machine.specs.Profiles.{newest};
-ghost use Rattle.journal_text.specs.WritingText.{EntryFits};
+ghost use Rattle.journal_text.specs.WritingText.{EntryFits, entry_line, head_line};
 ghost use Rattle.state_mirror.specs.Ordering.{HasFailedWriting, IsFresh, IsRefused, answer_of, HasOrdered, IfKnown, IsWriting, entry_for, handed_with, part_text, place_end};
 
+use crate::SpelledEntry;
 use asp_base::{Failed, NoMemory, Sink, write_whole};
-use journal_text::{entry_fits, write_entry, write_head};
+use asp_messages::push;
+use journal_text::{entry_fits, write_head};
 use session_machine::{Entry, Profile};
 use std::alloc::Global;
 use std::collections::BTreeMap;
@@ -46,12 +48,12 @@ pub enum Handed {
 /// soon as none before them is missing.
 #[derive(Debug, Drop)]
 pub struct Order<T> {
+    alloc: Global,
     first_place: u64,
     next: u64,
-    waiting: BTreeMap<u64, Entry>,
+    waiting: BTreeMap<u64, SpelledEntry>,
     stop: Option<Stop>,
     sink: T,
-    text: Vec<u8>,
 }
 
 impl<T> Model for Order<T> {
@@ -71,29 +73,40 @@ impl<T> Model for Order<T> {
     ghost invariant = { λ o. WaitersFit o.waiting.entries };
 }
 
-/// Puts the text of one entry into the buffer, with the first line of a journal before it where it
-/// is the first.
-fn spell(text: &mut Vec<u8>, first: u64, place: u64, entry: &Entry) -> Result<(), NoMemory>
-    requires entry { EntryFits newest entry.now }
-    requires place { (first ≤ place) × (place < place_end) }
-    ensures { OnOk result (text.new.items ≡ part_text first place entry.now) }
+/// Writes a text whole.
+fn write_text<T: Sink>(sink: &mut T, text: &[u8]) -> Result<(), Stop>
+    ensures ok { OnOk result (Takes (T.taken sink.old) (T.taken sink.new) text.now) }
+    ensures err { OnErr result (TakesFront (T.taken sink.old) (T.taken sink.new) text.now) }
+    ensures cause { IfErr result
+        (λ stop. stop ≡ Stop.Sink → Rose (T.faults sink.old) (T.faults sink.new)) }
+    ensures later { T.faults sink.old ≤ T.faults sink.new }
 {
-    text.clear();
-    if place == first {
-        write_head(text, Profile::Three, first)?;
+    match write_whole(sink, text) {
+        Ok(()) => Ok(()),
+        Err(Failed) => Err(Stop::Sink),
     }
-    write_entry(text, Profile::Three, entry)
+}
+
+/// The text of the first entry, which has the first line of a journal before it.
+fn first_part(alloc: Global, first: u64, entry: &SpelledEntry) -> Result<Vec<u8>, NoMemory>
+    requires place { first < place_end }
+    ensures { IfOk result (λ text. text.items
+        ≡ head_line newest first ++ entry_line newest entry.now) }
+{
+    let mut text = Vec::with_capacity(alloc, entry.line().len().saturating_add(64))?;
+    write_head(&mut text, Profile::Three, first)?;
+    push(&mut text, entry.line())?;
+    Ok(text)
 }
 
 /// Writes the text of one entry.
 fn write_part<T: Sink>(
+    alloc: Global,
     sink: &mut T,
-    text: &mut Vec<u8>,
     first: u64,
     place: u64,
-    entry: &Entry,
+    entry: &SpelledEntry,
 ) -> Result<(), Stop>
-    requires entry { EntryFits newest entry.now }
     requires place { (first ≤ place) × (place < place_end) }
     ensures ok { OnOk result (Takes (T.taken sink.old) (T.taken sink.new)
         (part_text first place entry.now)) }
@@ -103,17 +116,17 @@ fn write_part<T: Sink>(
         (λ stop. stop ≡ Stop.Sink → Rose (T.faults sink.old) (T.faults sink.new)) }
     ensures later { T.faults sink.old ≤ T.faults sink.new }
 {
-    if let Err(NoMemory) = spell(text, first, place, entry) {
-        return Err(Stop::NoMemory);
+    if place != first {
+        return write_text(sink, entry.line());
     }
-    match write_whole(sink, text.as_slice()) {
-        Ok(()) => Ok(()),
-        Err(Failed) => Err(Stop::Sink),
+    match first_part(alloc, first, entry) {
+        Ok(text) => write_text(sink, text.as_slice()),
+        Err(NoMemory) => Err(Stop::NoMemory),
     }
 }
 
 /// Lets an entry go. It stands apart so that what calls it has one way through.
-fn let_go(entry: Entry) {
+fn let_go<E: Drop>(entry: E) {
     let _entry = entry;
 }
 
@@ -138,12 +151,12 @@ impl<T: Sink> Order<T> {
         ensures sink { result.sink ≡ sink }
     {
         Order {
+            alloc,
             first_place,
             next: first_place,
             waiting: BTreeMap::new(alloc),
             stop: None,
             sink,
-            text: Vec::new(alloc),
         }
     }
 
@@ -158,7 +171,7 @@ impl<T: Sink> Order<T> {
     }
 
     /// Takes out the entry that waits for the next place.
-    fn take_next(&mut self) -> Option<Entry>
+    fn take_next(&mut self) -> Option<SpelledEntry>
         ensures found { result ≡ entry_for self.old.waiting self.old.next }
         ensures fits { IfSome result (λ e. (self.old.next < place_end) × EntryFits newest e) }
         ensures later { (place : ℕ) → self.old.next < place
@@ -173,8 +186,7 @@ impl<T: Sink> Order<T> {
     }
 
     /// Writes the entry of the next place.
-    fn write_next(&mut self, entry: &Entry) -> Result<(), Stop>
-        requires entry { EntryFits newest entry.now }
+    fn write_next(&mut self, entry: &SpelledEntry) -> Result<(), Stop>
         requires place { (self.old.first ≤ self.old.next) × (self.old.next < place_end) }
         ensures ok { OnOk result (Takes (T.taken self.old.sink) (T.taken self.new.sink)
             (part_text self.old.first self.old.next entry.now)) }
@@ -188,8 +200,8 @@ impl<T: Sink> Order<T> {
         ensures later { T.faults self.old.sink ≤ T.faults self.new.sink }
     {
         write_part(
+            self.alloc,
             &mut self.sink,
-            &mut self.text,
             self.first_place,
             self.next,
             entry,
@@ -200,8 +212,7 @@ impl<T: Sink> Order<T> {
 
     /// The same of an entry that is dropped then. It stands apart so that the calls above have one
     /// way through.
-    fn write_owned(&mut self, entry: Entry) -> Result<(), Stop>
-        requires entry { EntryFits newest entry }
+    fn write_owned(&mut self, entry: SpelledEntry) -> Result<(), Stop>
         requires place { (self.old.first ≤ self.old.next) × (self.old.next < place_end) }
         ensures ok { OnOk result (Takes (T.taken self.old.sink) (T.taken self.new.sink)
             (part_text self.old.first self.old.next entry)) }
@@ -248,8 +259,7 @@ impl<T: Sink> Order<T> {
     }
 
     /// Keeps an entry for later.
-    fn keep(&mut self, place: u64, entry: Entry) -> Result<(), Stop>
-        requires entry { EntryFits newest entry }
+    fn keep(&mut self, place: u64, entry: SpelledEntry) -> Result<(), Stop>
         requires place { place < place_end }
         requires absent { entry_for self.old.waiting place ≡ None }
         ensures kept { OnOk result (entry_for self.new.waiting place ≡ Some entry) }
@@ -265,7 +275,7 @@ impl<T: Sink> Order<T> {
     }
 
     /// Takes an entry for a place for which none was handed in.
-    fn admit(&mut self, place: u64, entry: Entry) -> Result<(), Stop>
+    fn admit(&mut self, place: u64, entry: SpelledEntry) -> Result<(), Stop>
         requires goes_on { self.old.stop ≡ None }
         requires entry { EntryFits newest entry }
         requires place { (self.old.first ≤ place) × (place < place_end) }
@@ -326,6 +336,37 @@ impl<T: Sink> Order<T> {
         }
     }
 
+    /// The same as `hand`, for an entry whose line is spelled.
+    pub fn hand_spelled(&mut self, place: u64, entry: SpelledEntry) -> Handed
+        requires place { (self.old.first ≤ place) × (place < place_end) }
+
+        // The order stands for what was handed in.
+        ensures handed { (sink : Option (List ℕ)) (handed : List (ℕ × AnEntry))
+            → HasOrdered T.taken sink handed self.old
+            → HasOrdered T.taken sink (handed_with result place entry handed) self.new }
+
+        ensures known { (sink : Option (List ℕ)) (handed : List (ℕ × AnEntry))
+            → HasOrdered T.taken sink handed self.old → self.old.stop ≡ None
+            → (result ≡ Handed.Known place) ↔ IsSome (entry_for handed place) }
+        ensures known_place { IfKnown result (λ known. (known ≡ place) × (self.old.stop ≡ None)
+            × (self.new ≡ self.old)) }
+        ensures stopped { (result ≡ Handed.Stopped) ↔ IsSome self.old.stop }
+        ensures stays { result ≡ Handed.Stopped → self.new ≡ self.old }
+        ensures taken { result ≡ Handed.Taken → self.new.stop ≡ None }
+        ensures sink_fault { result ≡ Handed.SinkFault → (self.new.stop ≡ Some Stop.Sink)
+            × Rose (T.faults self.old.sink) (T.faults self.new.sink) }
+        ensures no_memory { result ≡ Handed.NoMemory → self.new.stop ≡ Some Stop.NoMemory }
+        ensures first { self.new.first ≡ self.old.first }
+    {
+        match self.refusal(place) {
+            Some(answer) => {
+                let_go(entry);
+                answer
+            }
+            None => self.take_spelled(place, entry),
+        }
+    }
+
     /// The answer where no entry is taken for the place: the order is stopped, or it is known.
     fn refusal(&self, place: u64) -> Option<Handed>
         ensures some { IfSome result (IsRefused self.now place) }
@@ -357,11 +398,49 @@ impl<T: Sink> Order<T> {
         ensures no_memory { result ≡ Handed.NoMemory → self.new.stop ≡ Some Stop.NoMemory }
         ensures first { self.new.first ≡ self.old.first }
     {
-        entry_fits(Profile::Three, &entry);
+        match SpelledEntry::new(self.alloc, entry) {
+            Ok(entry) => self.take_spelled(place, entry),
+            Err(entry) => self.leave_unspelled(place, entry),
+        }
+    }
+
+    /// The same for an entry whose line is spelled.
+    fn take_spelled(&mut self, place: u64, entry: SpelledEntry) -> Handed
+        requires goes_on { self.old.stop ≡ None }
+        requires place { (self.old.first ≤ place) × (place < place_end) }
+        requires new { (self.old.next ≤ place) × (entry_for self.old.waiting place ≡ None) }
+        ensures handed { (sink : Option (List ℕ)) (handed : List (ℕ × AnEntry))
+            → HasOrdered T.taken sink handed self.old
+            → HasOrdered T.taken sink (handed_with result place entry handed) self.new }
+        ensures fresh { IsFresh result }
+        ensures taken { result ≡ Handed.Taken → self.new.stop ≡ None }
+        ensures sink_fault { result ≡ Handed.SinkFault → (self.new.stop ≡ Some Stop.Sink)
+            × Rose (T.faults self.old.sink) (T.faults self.new.sink) }
+        ensures no_memory { result ≡ Handed.NoMemory → self.new.stop ≡ Some Stop.NoMemory }
+        ensures first { self.new.first ≡ self.old.first }
+    {
+        entry.fits();
         match self.admit(place, entry) {
             Ok(()) => Handed::Taken,
             Err(stop) => self.halt(stop),
         }
+    }
+
+    /// Stops the order, since there is no memory for the line of an entry.
+    fn leave_unspelled(&mut self, place: u64, entry: Entry) -> Handed
+        requires goes_on { self.old.stop ≡ None }
+        requires entry { IsFormed entry }
+        requires place { (self.old.first ≤ place) × (place < place_end) }
+        requires new { (self.old.next ≤ place) × (entry_for self.old.waiting place ≡ None) }
+        ensures handed { (sink : Option (List ℕ)) (handed : List (ℕ × AnEntry))
+            → HasOrdered T.taken sink handed self.old
+            → HasOrdered T.taken sink (handed_with result place entry handed) self.new }
+        ensures answer { result ≡ Handed.NoMemory }
+        ensures stop { self.new.stop ≡ Some Stop.NoMemory }
+        ensures first { self.new.first ≡ self.old.first }
+    {
+        entry_fits(Profile::Three, &entry);
+        self.halt(Stop::NoMemory)
     }
 
     /// Stops the order, and answers what stopped it.

@@ -1,7 +1,7 @@
 use Rattle.std.proofs.Common.{◌++◌, ◌∷◌, [], sym, ◌∙◌, ap, subst}
 use Rattle.state_mirror.specs.Ordering.{HasOrdered, handed_with}
 use Rattle.state_mirror.proofs.OrderLemmas.{handed_stopped, stopped}
-use Rattle.state_mirror.proofs.order.Order.take.Goals as goal
+use Rattle.state_mirror.proofs.order.Order.take_spelled.Goals as goal
 
 pub returns-in-Err-clause-handed : goal.returns-in-Err-clause-handed
 returns-in-Err-clause-handed g c = λ sink handed has.
