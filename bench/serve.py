@@ -9,9 +9,9 @@ and prints the medians: requests a second, p50 and p99 in microseconds. --growth
 connections; --sessions writes sessions with contents of 100 bytes to 64 KiB, and prints the memory of each, and the time of a request
 before and after 1,000,000 of them; --expiry writes 20,000 sessions of one minute, lets them expire, and prints the memory before and
 after short visits, and after as many more sessions; --calls counts the system calls of 20,000 requests under strace; --journals runs
-PROGRAM without and with FOLDER, and OLDER if it is given, by turns with 8 and 64 connections, and prints the medians, and how large the
-journals grow a request (in a folder of TMPDIR, some 500 MB at a time). It needs cc, and
-redis-server, memcached, nginx and strace where they are asked for. Outside the gate; nothing of it is promised.
+PROGRAM without and with FOLDER, and OLDER if it is given, by turns with 8 and 64 connections, and prints the medians, the server's
+processor time a request in microseconds, and how large the journals grow a request (in a folder of TMPDIR, some 500 MB at a time). It
+needs cc, and redis-server, memcached, nginx and strace where they are asked for. Outside the gate; nothing of it is promised.
 """
 import os
 import re
@@ -263,6 +263,13 @@ def calls(bench):
                 print(f"  {fields[-1]}: {int(fields[3]) / 20_000:.3f} a request")
 
 
+def processor_time(process):
+    """The processor time that a process took so far, in seconds."""
+    with open(f"/proc/{process.pid}/stat", encoding="ascii") as file:
+        fields = file.read().rpartition(")")[2].split()
+    return (int(fields[11]) + int(fields[12])) / os.sysconf("SC_CLK_TCK")
+
+
 def journals(bench, older):
     kinds = ["asp-get", "asp-put", "asp-lock"]
     names = [*(["older"] if older else []), "without", "with"]
@@ -274,15 +281,18 @@ def journals(bench, older):
                     with tempfile.TemporaryDirectory() as folder:
                         program = older if name == "older" else None
                         port, server = bench.serve(64, program=program, journals=folder if name == "with" else None)
+                        before = processor_time(server)
                         seen = bench.measure(port, kind, connections)
+                        took = processor_time(server) - before
                         server.terminate()
                         server.wait()
                         size = sum(os.path.getsize(os.path.join(folder, file)) for file in os.listdir(folder))
-                    figures.setdefault((kind, connections, name), []).append((*seen, size / (seen[0] * SECONDS)))
-    print(f"{'kind':<10} connections  {'journals':<8}  requests/s  p50 us  p99 us  bytes a request")
+                    requests = seen[0] * SECONDS
+                    figures.setdefault((kind, connections, name), []).append((*seen, took * 1e6 / requests, size / requests))
+    print(f"{'kind':<10} connections  {'journals':<8}  requests/s  p50 us  p99 us  processor us  bytes a request")
     for (kind, connections, name), seen in figures.items():
-        rate, half, most, size = (statistics.median(column) for column in zip(*seen))
-        print(f"{kind:<10} {connections:>11}  {name:<8}  {rate:>10,.0f}  {half:>6.1f}  {most:>6.1f}  {size:>15,.0f}")
+        rate, half, most, took, size = (statistics.median(column) for column in zip(*seen))
+        print(f"{kind:<10} {connections:>11}  {name:<8}  {rate:>10,.0f}  {half:>6.1f}  {most:>6.1f}  {took:>12.2f}  {size:>15,.0f}")
 
 
 def main():
