@@ -3,8 +3,8 @@ use Rattle.std.specs.Prelude.{◌<◌, ⊤}
 use Rattle.asp_messages.specs.declared.reply.Reply.{Reply as AReply}
 use Rattle.session_machine.specs.History.{IsFormed}
 use Rattle.turnstile.specs.TurnRule.{end_of_places}
-use Rattle.stream_server.specs.declared.one_stream.Owed.{Owed}
-use Rattle.stream_server.specs.declared.one_stream.Owed.TheVariants.{Placed, Reply}
+use Rattle.stream_server.specs.declared.owed.Owed.{Owed}
+use Rattle.stream_server.specs.declared.owed.Owed.TheVariants.{Placed, Reply}
 
 -- the reply
 abbrev pub reply_owed : Owed → AReply

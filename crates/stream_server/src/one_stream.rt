@@ -1,29 +1,29 @@
 //! One stream: pieces are read, each whole message is answered, its reply is written, and its entry
 //! told of.
-ghost use Rattle.std.specs.Prelude.{◌≡◌, ◌<◌, ◌≤◌, ◌^◌, [], List, ℕ, length, OnOk, OnErr, IsTrue, IsFalse};
+ghost use Rattle.std.specs.Prelude.{◌≡◌, ◌<◌, ◌≤◌, [], List, ℕ, length, OnOk, OnErr, IsTrue, IsFalse};
 ghost use Rattle.asp_base.specs.Causes.{HasCause, Rose};
 ghost use Rattle.asp_base.specs.Outside.{Gives, IsAtEnd, Takes, TakesFront};
 ghost use Rattle.asp_base.specs.Pieces.{IfFed};
-ghost use Rattle.asp_messages.specs.Ranges.{RequestFits, ReplyFits};
+ghost use Rattle.asp_messages.specs.Ranges.{RequestFits};
 ghost use Rattle.asp_messages.specs.RequestSpelling.{SpellsRequest};
 ghost use Rattle.asp_messages.specs.Stream.{HasNoMessage, IsHopeless};
 ghost use Rattle.message_framing.specs.ReaderState.{fed};
-ghost use Rattle.state_store.specs.Passes.{IsPassOf, shards_of, caller_of, view_in};
+ghost use Rattle.state_store.specs.Passes.{IsPassOf, caller_of};
 ghost use Rattle.stream_core.specs.Whole.{IfFit};
 ghost use Rattle.stream_server.specs.Callers.{caller_with};
 ghost use Rattle.stream_server.specs.Connections.{line_of};
-ghost use Rattle.stream_server.specs.Owing.{CanBeNoted, reply_owed};
 ghost use Rattle.stream_server.specs.StreamProgress.{AnswersOne, AnswersHeld, AnswersInPart, EndsBadly};
-ghost use Rattle.stream_server.specs.Streams.{IsBadIfUnfit, IsServedStream, LeavesIn, asked_for};
+ghost use Rattle.stream_server.specs.Streams.{IsServedStream};
 
 use crate::StreamEnd;
+use crate::owed::owed_for;
 use asp_base::{
     Clock, Failed, FixedText, Gate, MOST_INPUT, MOST_PIECE, NoMemory, Piece, Sink, Source,
     read_piece, write_text,
 };
-use asp_messages::{Message, Reply, Request, reply_body, reply_head};
+use asp_messages::{Message, Reply, reply_body, reply_head};
 use keeper::Keeper;
-use state_store::{NoNotes, Noted, Notes, Pass, Placed, Store};
+use state_store::{NoNotes, Notes, Pass, Store};
 use std::alloc::Global;
 use std::rt::Clock as HostTime;
 use std::sync::Wait;
@@ -75,119 +75,6 @@ enum Stop {
     WriteFault,
 }
 
-/// What is owed for a message: a reply, with its entry where somebody is to be told of it.
-#[derive(Drop)]
-enum Owed {
-    /// The reply of a request that had a place, in its entry.
-    Placed(Placed),
-    /// A reply of whose entry nobody is told, or that has none.
-    Reply(Reply),
-}
-
-impl Owed {
-    /// The reply.
-    fn reply(&self) -> &Reply
-        ensures { result.now ≡ reply_owed self.now }
-    {
-        match self {
-            Owed::Placed(placed) => &placed.entry.reply,
-            Owed::Reply(reply) => reply,
-        }
-    }
-}
-
-/// What is owed for a request at the moment `t`, with its entry.
-fn ask_noted<R: Wait, K: Keeper + Drop, G: Gate>(
-    rt: &R,
-    store: &Store<K>,
-    pass: &mut Pass<K>,
-    request: Request,
-    t: u64,
-    gate: &G,
-) -> Owed
-    requires pass { IsPassOf store.now pass.old }
-    requires request { RequestFits request }
-    requires moment { t ≤ 2 ^ 62 }
-    ensures pass { IsPassOf store.now pass.new }
-    ensures caller { caller_of pass.new ≡ caller_of pass.old }
-    ensures fits { ReplyFits (reply_owed result) }
-    ensures leaves { (shard : ℕ) → LeavesIn (caller_of pass.old)
-        (asked_for (shards_of store.now) shard (Message.Fit request) t (reply_owed result))
-        (view_in pass.old shard) (view_in pass.new shard) }
-    ensures noted { CanBeNoted result }
-{
-    match store.ask_noted(rt, pass, request, t, gate) {
-        Noted::Placed(placed) => Owed::Placed(placed),
-        Noted::PlacesOut => Owed::Reply(Reply::PlacesOut),
-    }
-}
-
-/// What is owed for a request at the moment `t`, without its entry.
-fn ask_plainly<R: Wait, K: Keeper + Drop, G: Gate>(
-    rt: &R,
-    store: &Store<K>,
-    pass: &mut Pass<K>,
-    request: Request,
-    t: u64,
-    gate: &G,
-) -> Owed
-    requires pass { IsPassOf store.now pass.old }
-    requires request { RequestFits request }
-    requires moment { t ≤ 2 ^ 62 }
-    ensures pass { IsPassOf store.now pass.new }
-    ensures caller { caller_of pass.new ≡ caller_of pass.old }
-    ensures fits { ReplyFits (reply_owed result) }
-    ensures leaves { (shard : ℕ) → LeavesIn (caller_of pass.old)
-        (asked_for (shards_of store.now) shard (Message.Fit request) t (reply_owed result))
-        (view_in pass.old shard) (view_in pass.new shard) }
-    ensures noted { CanBeNoted result }
-{
-    Owed::Reply(store.ask(rt, pass, request, t, gate).reply)
-}
-
-/// What is owed for a message at the moment `t`. The store is asked for each that is a request, and
-/// gives the entry where entries are wanted.
-fn owed_for<R: Wait, K: Keeper + Drop, G: Gate, N: Notes>(
-    rt: &R,
-    store: &Store<K>,
-    pass: &mut Pass<K>,
-    message: Message,
-    t: u64,
-    gate: &G,
-    notes: &N,
-) -> Owed
-    requires pass { IsPassOf store.now pass.old }
-    requires message { IfFit message RequestFits }
-    requires moment { t ≤ 2 ^ 62 }
-    ensures pass { IsPassOf store.now pass.new }
-    ensures caller { caller_of pass.new ≡ caller_of pass.old }
-    ensures fits { ReplyFits (reply_owed result) }
-    ensures unfit { IsBadIfUnfit message (reply_owed result) }
-    ensures leaves { (shard : ℕ) → LeavesIn (caller_of pass.old)
-        (asked_for (shards_of store.now) shard message t (reply_owed result))
-        (view_in pass.old shard) (view_in pass.new shard) }
-    ensures noted { CanBeNoted result }
-{
-    match message {
-        Message::Fit(request) => {
-            if notes.wants() {
-                return ask_noted(rt, store, pass, request, t, gate);
-            }
-            ask_plainly(rt, store, pass, request, t, gate)
-        }
-        Message::Unfit => Owed::Reply(Reply::Bad),
-    }
-}
-
-/// Tells of the entry, where there is one.
-fn tell<R: Wait, N: Notes>(rt: &R, notes: &N, owed: Owed)
-    requires { CanBeNoted owed }
-{
-    if let Owed::Placed(placed) = owed {
-        notes.take(rt, placed);
-    }
-}
-
 /// Answers the message that was taken last at the moment that the clock gives next, writes the
 /// reply, and then tells of the entry, also where the sink failed.
 fn answer<R: Wait + HostTime, K: Keeper + Drop, T: Sink, C: Clock, G: Gate, N: Notes>(
@@ -220,7 +107,7 @@ fn answer<R: Wait + HostTime, K: Keeper + Drop, T: Sink, C: Clock, G: Gate, N: N
     let reply = owed.reply();
     let head = stream.answer(reply);
     let written = write_text(sink, text, head.as_slice(), reply_body(reply));
-    tell(rt, notes, owed);
+    owed.tell(rt, notes);
     written
 }
 

@@ -5,7 +5,7 @@ use Rattle.state_store.specs.Passes.{shards_of, caller_of, view_in}
 use Rattle.stream_server.specs.Owing.{reply_owed}
 use Rattle.stream_server.specs.Streams.{LeavesIn, asked_for}
 use Rattle.stream_server.proofs.AnswerLemmas.{leaves-none}
-use Rattle.stream_server.proofs.one_stream.owed_for.Goals as goal
+use Rattle.stream_server.proofs.owed.owed_for.Goals as goal
 
 pub returns-then-wants-clause-leaves : goal.returns-then-wants-clause-leaves
 returns-then-wants-clause-leaves g c shard =

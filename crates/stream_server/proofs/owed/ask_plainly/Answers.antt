@@ -1,6 +1,6 @@
 use Rattle.state_store.specs.Passes.{shards_of, view_in, call_of}
 use Rattle.stream_server.proofs.StoreLemmas.{leaves_one, leaves_in}
-use Rattle.stream_server.proofs.one_stream.ask_plainly.Goals as goal
+use Rattle.stream_server.proofs.owed.ask_plainly.Goals as goal
 
 pub returns-clause-leaves : goal.returns-clause-leaves
 returns-clause-leaves g c shard =

@@ -4,7 +4,7 @@ use Rattle.asp_messages.specs.declared.reply.Reply.TheVariants.{PlacesOut}
 use Rattle.session_machine.specs.History.{HasPlace, IsFormed}
 use Rattle.state_store.specs.Passes.{shards_of, view_in, call_of}
 use Rattle.stream_server.proofs.StoreLemmas.{leaves_one, leaves_in}
-use Rattle.stream_server.proofs.one_stream.ask_noted.Goals as goal
+use Rattle.stream_server.proofs.owed.ask_noted.Goals as goal
 
 no_reply : (reply : Reply) → HasPlace reply → reply ≡ PlacesOut → ⊥
 no_reply reply place is = subst HasPlace is place

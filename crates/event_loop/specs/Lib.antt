@@ -1,0 +1,5 @@
+pub mod Peers
+pub mod PeerWires
+pub mod IncomingPeers
+pub mod PendingReplies
+pub mod Resuming
