@@ -8,8 +8,8 @@ ghost use Rattle.stream_server.specs.Callers.{caller_with};
 ghost use Rattle.stream_server.specs.Streams.{Answers};
 ghost use Rattle.event_loop.specs.Resuming.{IfReplied};
 
-use asp_base::{Clock, Gate};
 use crate::unsent::Unsent;
+use asp_base::{Clock, Gate};
 use keeper::Keeper;
 use state_store::{Notes, Pass, Store};
 use std::rt::Clock as HostTime;

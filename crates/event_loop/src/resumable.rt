@@ -316,7 +316,9 @@ impl ResumableStream {
     {
         let mut is_drained = false;
         for _ in 0..MOST_STEPS {
-            let step = self.step(rt, store, pass, peer, buf, text, is_drained, clock, gate, notes);
+            let step = self.step(
+                rt, store, pass, peer, buf, text, is_drained, clock, gate, notes,
+            );
             match advanced_by(step) {
                 Some(advanced) => return advanced,
                 None => {}

@@ -113,7 +113,8 @@ impl Unsent {
     {
         let head = reply_head(self.owed.reply());
         let in_head = self.taken.min(head.as_slice().len());
-        in_head == head.as_slice().len() && self.taken - in_head >= reply_body(self.owed.reply()).len()
+        in_head == head.as_slice().len()
+            && self.taken - in_head >= reply_body(self.owed.reply()).len()
     }
 
     /// Offers what is left of the reply to the peer, once.

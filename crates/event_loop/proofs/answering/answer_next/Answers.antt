@@ -23,7 +23,6 @@ returns-in-Message-clause-reply g c =
     let old = caller_with c.args.store.now c.args.pass.now (g.C.Clock.told c.args.clock.now) in
     let new = caller_with c.args.store.now c.owed_for-owed.new.pass (g.C.Clock.told c.now-t.new.self) in
     let owed = c.owed_for-owed.ensures in (
-
       c.in-Message.message,
       c.now-t.result,
       took.front,

@@ -35,8 +35,8 @@ returns-in-Reply-clause-leads g c = λ first t.
     let r = c.in-Reply.ensures.reply in
     answer-pending first (wire_of g.P.Peer c.args.peer.now) old new c.args.self.now
     c.requires.all_sent t _ c.in-Reply.unsent
-    (record { message = r.0; moment = r.1; reply = c.in-Reply.unsent.reply }) r.2 refl refl
-    c.in-Reply.ensures.new r.3 r.4 r.5 refl
+    (record { message = r.0; moment = r.1; reply = c.in-Reply.unsent.reply }) r.2 refl
+    c.in-Reply.ensures.new refl r.3 r.4 r.5 refl
 
 pub returns-else-is_drained-clause-leads : goal.returns-else-is_drained-clause-leads
 returns-else-is_drained-clause-leads g c =
