@@ -1,2 +1,3 @@
 mod PendingLemmas
 mod ResumingLemmas
+mod SlotLemmas

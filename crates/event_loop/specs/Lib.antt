@@ -3,3 +3,4 @@ pub mod PeerWires
 pub mod IncomingPeers
 pub mod PendingReplies
 pub mod Resuming
+pub mod Slots

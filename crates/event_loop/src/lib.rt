@@ -7,6 +7,7 @@ mod answering;
 mod peer;
 mod peer_piece;
 mod resumable;
+mod slot;
 mod unsent;
 
 pub use acceptor::{Acceptor, Incoming};
