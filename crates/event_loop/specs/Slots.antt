@@ -35,11 +35,14 @@ pub record SlotMeans (D C P : Type 0) : Type 1 where
   pub room : D → Type 0
   pub wire : P → Wire
 
--- What one sees of a slot by its state: free, and so far it served these connections; serving, and
--- its connection is served; or closed, and it served them all.
+-- What one sees of a slot by its state: free or closing, and so far it served these connections;
+-- serving, and its connection is served; or closed, and it served them all.
 abbrev pub SlotStandsBy : {K D C P : Type 0} → (K → Option (List ℕ → Option Item))
     → SlotMeans D C P → SlotState P → Bool → D → Post → Post → Type 0
 SlotStandsBy told m slots.Free failed door first now =
+    (now.faults ≡ first.faults)
+    × ((services : List Service) × ShiftIsUnderway told first now services)
+SlotStandsBy told m slots.Closing failed door first now =
     (now.faults ≡ first.faults)
     × ((services : List Service) × ShiftIsUnderway told first now services)
 SlotStandsBy told m (slots.Serving p stream) failed door first now =

@@ -48,6 +48,12 @@ pub trait Acceptor {
         ensures cause { HasCause (faults self.old) (faults self.new) result }
         ensures count { OnOk result (faults self.new ≡ faults self.old) };
 
+    /// Whether it is done with the connection that came back last, so that the next may be asked
+    /// for. Nothing that is told changes.
+    fn is_settled(&mut self) -> bool
+        ensures told { told self.new ≡ told self.old }
+        ensures count { faults self.new ≡ faults self.old };
+
     /// Takes a connection back, with its end. It takes no memory.
     fn done(&mut self, peer: Self::Peer, end: StreamEnd)
         requires room { has_room self.old }

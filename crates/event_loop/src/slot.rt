@@ -21,6 +21,8 @@ use stream_server::Worker;
 pub(crate) enum SlotState<P> {
     /// It waits for a connection.
     Free,
+    /// It waits until its acceptor is done with the last one.
+    Closing,
     /// It serves the connection of this peer, whose stream has come so far.
     Serving(P, Box<ResumableStream>),
     /// No connection is to come, or the acceptor failed.
@@ -32,10 +34,12 @@ pub(crate) enum SlotState<P> {
 pub(crate) enum SlotLook {
     /// A connection was accepted.
     Accepted,
-    /// Its peer isn't ready.
+    /// Its peer isn't ready, or its acceptor isn't done with the last one.
     Waits,
     /// It is to be looked at again soon.
     Again,
+    /// It has become free.
+    Freed,
     /// It has no connection.
     Free,
     /// It is closed.
@@ -63,7 +67,7 @@ pub(crate) fn accept_on<D: Acceptor, C: Clock, K: Keeper + Drop>(
 {
     match state {
         SlotState::Free => {}
-        SlotState::Serving(_, _) => return SlotLook::Waits,
+        SlotState::Closing | SlotState::Serving(_, _) => return SlotLook::Waits,
         SlotState::Closed => return SlotLook::Closed,
     }
     let Ok(stream) = Box::new(alloc, ResumableStream::new(alloc)) else {
@@ -89,7 +93,8 @@ pub(crate) fn accept_on<D: Acceptor, C: Clock, K: Keeper + Drop>(
 }
 
 /// Goes on with the stream of a slot that serves. Where it has ended, the connection is given back,
-/// and there is one sweep, at the moment that the clock gives next.
+/// and there is one sweep, at the moment that the clock gives next. A slot that was closing is free
+/// again once its acceptor is done.
 pub(crate) fn serve_on<
     R: Wait + HostTime,
     D: Acceptor,
@@ -126,6 +131,13 @@ pub(crate) fn serve_on<
     };
     match replace(state, SlotState::Free) {
         SlotState::Free => SlotLook::Free,
+        SlotState::Closing => {
+            if worker.door.is_settled() {
+                return SlotLook::Freed;
+            }
+            *state = SlotState::Closing;
+            SlotLook::Waits
+        }
         SlotState::Closed => {
             *state = SlotState::Closed;
             SlotLook::Closed
@@ -157,7 +169,11 @@ pub(crate) fn serve_on<
                     worker.door.done(peer, end);
                     let t = worker.clock.now(rt);
                     store.sweep_noted(rt, pass, t, gate, notes);
-                    SlotLook::Free
+                    if worker.door.is_settled() {
+                        return SlotLook::Freed;
+                    }
+                    *state = SlotState::Closing;
+                    SlotLook::Waits
                 }
             }
         }
