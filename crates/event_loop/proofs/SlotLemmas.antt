@@ -1,5 +1,5 @@
 -- A slot from one look to the next.
-use Rattle.std.proofs.Common.{◌≡◌, ℕ, ◌<◌, ◌≤◌, List, [], ◌∷◌, Option, Some, None, length, Box, Global, slice_index_or, slice_set, refl, sym, ap, ◌∙◌, subst, arith, ⊎_elim}
+use Rattle.std.proofs.Common.{◌≡◌, ℕ, ◌<◌, ◌≤◌, List, [], ◌∷◌, Option, Some, None, length, Box, Global, slice_index_or, slice_set, refl, sym, ap, ◌∙◌, subst, arith, ⊎_elim, ◌⊎◌, inl, inr}
 use Rattle.std.specs.Prelude.{Bool, true, false}
 use Rattle.asp_base.specs.Causes.{Rose}
 use Rattle.session_machine.specs.declared.item.Item.{Item}
@@ -9,7 +9,10 @@ use Rattle.stream_server.specs.Connections.{Wire}
 use Rattle.stream_server.specs.Doors.{Doorway, HandsOut, TakesBack, IsShut}
 use Rattle.stream_server.specs.Services.{Service, Post, Handed, Follow, ShiftIsUnderway, HasShift, IsSweep}
 use Rattle.asp_base.specs.Limits.{most_input}
-use Rattle.stream_server.specs.Streams.{Caller}
+use Rattle.asp_base.proofs.OutsideLemmas.{Gives-nil}
+use Rattle.stream_server.specs.declared.door.StreamEnd.TheVariants as ends
+use Rattle.stream_server.specs.Streams.{Caller, IsServedStream}
+use Rattle.stream_server.proofs.StreamLemmas.{streaming-start, end-no_memory}
 use Rattle.event_loop.specs.declared.resumable.ResumableStream.{ResumableStream}
 use Rattle.event_loop.specs.declared.resumable.Pending.TheVariants as pendings
 use Rattle.event_loop.specs.Resuming.{Continues, EndsStream, IsResumable, IsResumableBy, StreamStands, standing}
@@ -35,6 +38,12 @@ pub resumable-first : (s : ResumableStream) → s.stream.reader ≡ empty_reader
 resumable-first s reader none =
     subst (λ p. IsResumableBy p s.stream.reader.is_broken) (sym none)
     (ap (λ (r : ReaderState). r.is_broken) reader)
+
+-- a stream that was not begun, since there was no memory for it
+stream-none : (wire : Wire) (who : Caller) → IsServedStream wire wire who who ends.NoMemory
+stream-none wire who =
+    end-no_memory wire wire wire who who (record { source = omega arith; sink = omega arith }) []
+    most_input (streaming-start wire who) (Gives-nil wire.source) refl
 
 module _ {K : Type 0} (told : K → Option (List ℕ → Option Item)) (first : Post) where
   abbrev Underway : Post → Type 0
@@ -112,6 +121,20 @@ module _ {K : Type 0} (told : K → Option (List ℕ → Option Item)) (first : 
       }
 
 -- ---- a whole slot
+
+-- no connection is served, and one may still come
+abbrev pub Rests : {P : Type 0} → SlotState P → Type 0
+Rests state = (state ≡ slots.Free) ⊎ (state ≡ slots.Closing)
+
+-- in either case it served its connections so far
+by-rest : {K D C P : Type 0} {told : K → Option (List ℕ → Option Item)} (m : SlotMeans D C P)
+    (failed : Bool) (door : D) (first now : Post) (state : SlotState P) → Rests state
+    → (now.faults ≡ first.faults)
+    × ((services : List Service) × ShiftIsUnderway told first now services)
+    → SlotStandsBy told m state failed door first now
+by-rest {told = told} m failed door first now state rests so = ⊎_elim
+    (λ is. subst (λ x. SlotStandsBy told m x failed door first now) (sym is) so)
+    (λ is. subst (λ x. SlotStandsBy told m x failed door first now) (sym is) so) rests
 
 module _ {K : Type 0} {H : KeeperGhosts K} {G : Ghosts (StoreDesk K) Entry} {D C P : Type 0}
     (m : SlotMeans D C P) (store : Store K Entry H) (first old new : Worker D C K Entry G)
@@ -275,22 +298,72 @@ module _ {K : Type 0} {H : KeeperGhosts K} {G : Ghosts (StoreDesk K) Entry} {D C
       → EndsStream end (standing (m.wire q) from.caller) (standing (m.wire q') between) stream.value
       → TakesBack (m.means.door old.door) (m.means.door new.door) (m.wire q') end
       → m.means.faults new.door ≡ m.means.faults old.door → IsSweep H.told between to.caller
-      → (state' : SlotState P) → state' ≡ slots.Free → SlotStands m store first new state'
-  stands-served q q' stream end between is ends back count sweep state' free =
-      subst (λ x. SlotStands m store first new x) (sym free) (record {
+      → (state' : SlotState P) → Rests state' → SlotStands m store first new state'
+  stands-served q q' stream end between is ends back count sweep state' rests = record {
+    pass = s.pass;
+    pass' = p';
+    had = s.had;
+    has = has;
+    stays = stays;
+    caller = caller ∙ ap (λ (r : Pass K Entry G). caller_of r) (sym same) ∙ s.caller;
+    stands = by-rest m new.failed new.door start to state' rests (
+      count ∙ (seated q stream is).0,
+      serving-over H.told start from to (m.wire q) (m.wire q') stream.value end between ends back
+          sweep (seated q stream is).1,
+    );
+  }
+
+  -- a connection was accepted and given back without memory, and there was a sweep
+  pub stands-unserved : (q : P) (door : Option Doorway) → state ≡ slots.Free
+      → HandsOut (m.means.door old.door) door (m.wire q)
+      → TakesBack door (m.means.door new.door) (m.wire q) ends.NoMemory
+      → m.means.faults new.door ≡ m.means.faults old.door → IsSweep H.told from.caller to.caller
+      → (state' : SlotState P) → Rests state' → SlotStands m store first new state'
+  stands-unserved q door is out back count sweep state' rests =
+      let free : SlotStandsBy H.told m slots.Free old.failed old.door start from =
+      subst (λ r. SlotStandsBy H.told m slots.Free old.failed old.door start
+      (post_with m.means store old.door old.clock r)) same
+      (subst (λ x. SlotStandsBy H.told m x old.failed old.door start
+      (post_with m.means store old.door old.clock s.pass')) is s.stands) in record {
         pass = s.pass;
         pass' = p';
         had = s.had;
         has = has;
         stays = stays;
         caller = caller ∙ ap (λ (r : Pass K Entry G). caller_of r) (sym same) ∙ s.caller;
-        stands = (
-          count ∙ (seated q stream is).0,
-          serving-over H.told start from to (m.wire q) (m.wire q') stream.value end between ends back
-              sweep
-              (seated q stream is).1,
+        stands = by-rest m new.failed new.door start to state' rests (
+          count ∙ free.0,
+          underway-more H.told start from to door (m.wire q) (m.wire q) ends.NoMemory from.caller
+              free.1 out back (stream-none (m.wire q) from.caller) sweep,
         );
-      })
+      }
+
+-- its acceptor was asked whether it is done with the last connection
+pub stands-settling : {K : Type 0} {H : KeeperGhosts K} {G : Ghosts (StoreDesk K) Entry}
+    {D C P : Type 0} (m : SlotMeans D C P) (store : Store K Entry H)
+    (first old new : Worker D C K Entry G) (state state' : SlotState P)
+    → SlotStands m store first old state → state ≡ slots.Closing → Rests state'
+    → new.pass ≡ old.pass → new.clock ≡ old.clock
+    → m.means.door new.door ≡ m.means.door old.door
+    → m.means.faults new.door ≡ m.means.faults old.door → SlotStands m store first new state'
+stands-settling {H = H} m store first old new state state' s is rests pass clock door faults =
+    let began : Post = post_with m.means store first.door first.clock s.pass in
+    let stood : Post = post_with m.means store old.door old.clock s.pass' in
+    let now : Post = post_with m.means store new.door new.clock s.pass' in
+    let so : SlotStandsBy H.told m slots.Closing old.failed old.door began stood =
+    subst (λ x. SlotStandsBy H.told m x old.failed old.door began stood) is s.stands in record {
+      pass = s.pass;
+      pass' = s.pass';
+      had = s.had;
+      has = pass ∙ s.has;
+      stays = s.stays;
+      caller = s.caller;
+      stands = by-rest m new.failed new.door began now state' rests (
+        faults ∙ so.0,
+        underway-count H.told began stood now
+            (ap (λ k. caller_with store s.pass' (m.means.clock k)) clock) door so.1,
+      );
+    }
 
 -- nothing happened
 pub stands-still : {K : Type 0} {H : KeeperGhosts K} {G : Ghosts (StoreDesk K) Entry} {D C P : Type 0}

@@ -1,5 +1,9 @@
 //! A slot: a worker whose connection is served by and by, as its peer is ready.
 ghost use Rattle.std.specs.Prelude.{◌≡◌, length};
+ghost use Rattle.state_store.specs.Passes.{IsPassOf, caller_of};
+ghost use Rattle.stream_server.specs.Callers.{caller_with};
+ghost use Rattle.stream_server.specs.Doors.{TakesBack};
+ghost use Rattle.stream_server.specs.Services.{IsSweep};
 ghost use Rattle.stream_server.specs.Workers.{Means};
 ghost use Rattle.event_loop.specs.PeerWires.{wire_of};
 ghost use Rattle.event_loop.specs.Slots.{IsSlot, KeepsSlot};
@@ -9,12 +13,12 @@ use crate::unsent::Text;
 use crate::{Acceptor, Incoming};
 use asp_base::{Clock, Failed, Gate, MOST_PIECE};
 use keeper::Keeper;
-use state_store::{Notes, Store};
+use state_store::{Notes, Pass, Store};
 use std::alloc::Global;
 use std::mem::replace;
 use std::rt::Clock as HostTime;
 use std::sync::Wait;
-use stream_server::Worker;
+use stream_server::{StreamEnd, Worker};
 
 /// What a slot is doing. A slot without a connection is small.
 #[derive(Drop)]
@@ -46,13 +50,51 @@ pub(crate) enum SlotLook {
     Closed,
 }
 
-/// Asks the acceptor of a free slot for its next connection. What the connection needs is taken
-/// before it is accepted: where there is no memory nobody is asked.
-pub(crate) fn accept_on<D: Acceptor, C: Clock, K: Keeper + Drop>(
+/// Gives a connection back, and then sweeps once, at the moment that the clock gives next. Answers
+/// whether the acceptor is done with the connection.
+fn give_back<R: Wait + HostTime, D: Acceptor, C: Clock, K: Keeper + Drop, G: Gate, N: Notes>(
+    rt: &R,
+    store: &Store<K>,
+    door: &mut D,
+    clock: &mut C,
+    pass: &mut Pass<K>,
+    peer: D::Peer,
+    end: StreamEnd,
+    gate: &G,
+    notes: &N,
+) -> bool
+    requires pass { IsPassOf store.now pass.old }
+    requires room { D.has_room door.old }
+    ensures pass { IsPassOf store.now pass.new }
+    ensures caller { caller_of pass.new ≡ caller_of pass.old }
+    ensures back { TakesBack (D.told door.old) (D.told door.new) (wire_of D.Peer.Peer peer) end }
+    ensures count { D.faults door.new ≡ D.faults door.old }
+    ensures swept { IsSweep K.told (caller_with store.now pass.old (C.told clock.old))
+        (caller_with store.now pass.new (C.told clock.new)) }
+{
+    door.done(peer, end);
+    let t = clock.now(rt);
+    store.sweep_noted(rt, pass, t, gate, notes);
+    door.is_settled()
+}
+
+/// Asks the acceptor of a free slot for its next connection. Where there is no memory to serve it,
+/// it is given back at once, and there is one sweep, at the moment that the clock gives next.
+pub(crate) fn accept_on<
+    R: Wait + HostTime,
+    D: Acceptor,
+    C: Clock,
+    K: Keeper + Drop,
+    G: Gate,
+    N: Notes,
+>(
+    rt: &R,
     alloc: Global,
     store: &Store<K>,
     worker: &mut Worker<D, C, K>,
     state: &mut SlotState<D::Peer>,
+    gate: &G,
+    notes: &N,
 ) -> SlotLook
     requires { IsSlot (record {
       means = record { door = D.told; faults = D.faults; clock = C.told };
@@ -70,14 +112,25 @@ pub(crate) fn accept_on<D: Acceptor, C: Clock, K: Keeper + Drop>(
         SlotState::Closing | SlotState::Serving(_, _) => return SlotLook::Waits,
         SlotState::Closed => return SlotLook::Closed,
     }
-    let Ok(stream) = Box::new(alloc, ResumableStream::new(alloc)) else {
-        return SlotLook::Free;
+    let Some(pass) = &mut worker.pass else {
+        return SlotLook::Closed;
     };
-    match worker.door.accept() {
-        Ok(Incoming::Peer(peer)) => {
-            *state = SlotState::Serving(peer, stream);
-            SlotLook::Accepted
-        }
+    let (door, clock) = (&mut worker.door, &mut worker.clock);
+    match door.accept() {
+        Ok(Incoming::Peer(peer)) => match Box::new(alloc, ResumableStream::new(alloc)) {
+            Ok(stream) => {
+                *state = SlotState::Serving(peer, stream);
+                SlotLook::Accepted
+            }
+            Err(_) => {
+                let end = StreamEnd::NoMemory;
+                if give_back(rt, store, door, clock, pass, peer, end, gate, notes) {
+                    return SlotLook::Freed;
+                }
+                *state = SlotState::Closing;
+                SlotLook::Waits
+            }
+        },
         Ok(Incoming::NotReady) => SlotLook::Free,
         Ok(Incoming::Nobody) => {
             *state = SlotState::Closed;
@@ -166,10 +219,8 @@ pub(crate) fn serve_on<
                     SlotLook::Again
                 }
                 Advanced::Over(end) => {
-                    worker.door.done(peer, end);
-                    let t = worker.clock.now(rt);
-                    store.sweep_noted(rt, pass, t, gate, notes);
-                    if worker.door.is_settled() {
+                    let (door, clock) = (&mut worker.door, &mut worker.clock);
+                    if give_back(rt, store, door, clock, pass, peer, end, gate, notes) {
                         return SlotLook::Freed;
                     }
                     *state = SlotState::Closing;

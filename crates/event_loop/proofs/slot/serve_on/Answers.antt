@@ -1,6 +1,7 @@
-use Rattle.std.proofs.Common.{refl, sym, ◌∙◌}
+use Rattle.std.proofs.Common.{refl, sym, ◌∙◌, inl, inr}
 use Rattle.stream_server.specs.Callers.{caller_with}
-use Rattle.event_loop.proofs.SlotLemmas.{stands-still, stands-stream, stands-served}
+use Rattle.event_loop.specs.declared.slot.SlotState.TheVariants.{Closing}
+use Rattle.event_loop.proofs.SlotLemmas.{stands-still, stands-stream, stands-served, stands-settling}
 use Rattle.event_loop.proofs.slot.serve_on.Goals as goal
 
 pub returns-in-Free-clause-keeps : goal.returns-in-Free-clause-keeps
@@ -30,22 +31,35 @@ returns-in-Again-clause-keeps g c = λ first s.
     (sym c.replace.ensures.value ∙ c.in-Serving.is) refl c.in-Again.ensures.resumable
     c.in-Again.ensures.leads
 
-pub returns-in-Over-clause-keeps : goal.returns-in-Over-clause-keeps
-returns-in-Over-clause-keeps g c = λ first s.
-    let swept = c.sweep_noted.ensures in
+pub returns-then-is_settled-clause-keeps : goal.returns-then-is_settled-clause-keeps
+returns-then-is_settled-clause-keeps g c = λ first s.
+    stands-settling _ c.args.store.now first c.args.worker.now _ c.args.state.now
+    c.replace.new.dest s (sym c.replace.ensures.value ∙ c.in-Closing.is)
+    (inl c.replace.ensures.after) (sym c.in-Some.is) refl c.is_settled.ensures.told
+    c.is_settled.ensures.count
+
+pub returns-else-is_settled-clause-keeps : goal.returns-else-is_settled-clause-keeps
+returns-else-is_settled-clause-keeps g c = λ first s.
+    stands-settling _ c.args.store.now first c.args.worker.now _ c.args.state.now Closing s
+    (sym c.replace.ensures.value ∙ c.in-Closing.is) (inr refl) (sym c.in-Some.is) refl
+    c.is_settled.ensures.told c.is_settled.ensures.count
+
+pub returns-then-give_back-clause-keeps : goal.returns-then-give_back-clause-keeps
+returns-then-give_back-clause-keeps g c = λ first s.
+    let gave = c.give_back.ensures in
     stands-served _ c.args.store.now first c.args.worker.now _ c.args.state.now s c.in-Some.pass
-    c.sweep_noted.new.pass c.in-Some.is refl swept.pass (swept.caller ∙ c.in-Over.ensures.caller)
+    c.give_back.new.pass c.in-Some.is refl gave.pass (gave.caller ∙ c.in-Over.ensures.caller)
     c.in-Serving.peer c.advance.new.peer c.in-Serving.stream c.in-Over.end
     (caller_with c.args.store.now c.advance.new.pass (g.C.Clock.told c.advance.new.clock))
-    (sym c.replace.ensures.value ∙ c.in-Serving.is) c.in-Over.ensures.leads c.done.ensures.back
-    c.done.ensures.count
-    (record {
-      number = swept.caller;
-      shards = refl;
-      moment = c.now-t.result;
-      gave = c.now-t.ensures.gives;
-      first_place = refl;
-      count = c.sweep_noted.result;
-      sweeps = swept.sweeps;
-    })
-    c.replace.new.dest c.replace.ensures.after
+    (sym c.replace.ensures.value ∙ c.in-Serving.is) c.in-Over.ensures.leads gave.back gave.count
+    gave.swept c.replace.new.dest (inl c.replace.ensures.after)
+
+pub returns-else-give_back-clause-keeps : goal.returns-else-give_back-clause-keeps
+returns-else-give_back-clause-keeps g c = λ first s.
+    let gave = c.give_back.ensures in
+    stands-served _ c.args.store.now first c.args.worker.now _ c.args.state.now s c.in-Some.pass
+    c.give_back.new.pass c.in-Some.is refl gave.pass (gave.caller ∙ c.in-Over.ensures.caller)
+    c.in-Serving.peer c.advance.new.peer c.in-Serving.stream c.in-Over.end
+    (caller_with c.args.store.now c.advance.new.pass (g.C.Clock.told c.advance.new.clock))
+    (sym c.replace.ensures.value ∙ c.in-Serving.is) c.in-Over.ensures.leads gave.back gave.count
+    gave.swept Closing (inr refl)
