@@ -111,10 +111,10 @@ impl Unsent {
         ensures sent { IsTrue result → rest_of self.now ≡ [] }
         ensures unsent { IsFalse result → self.now.taken < length (reply_text self.now.reply) }
     {
-        let head = reply_head(self.owed.reply());
+        let reply = self.owed.reply();
+        let head = reply_head(reply);
         let in_head = self.taken.min(head.as_slice().len());
-        in_head == head.as_slice().len()
-            && self.taken - in_head >= reply_body(self.owed.reply()).len()
+        in_head == head.as_slice().len() && self.taken - in_head >= reply_body(reply).len()
     }
 
     /// Offers what is left of the reply to the peer, once.
@@ -133,9 +133,10 @@ impl Unsent {
         ensures source { P.told peer.new ≡ P.told peer.old }
         ensures source_count { P.source_faults peer.new ≡ P.source_faults peer.old }
     {
-        let head = reply_head(self.owed.reply());
+        let reply = self.owed.reply();
+        let head = reply_head(reply);
         let head = head.as_slice();
-        let body = reply_body(self.owed.reply());
+        let body = reply_body(reply);
         let in_head = self.taken.min(head.len());
         let in_body = self.taken - in_head;
         match offer(peer, text, &head[in_head..], &body[in_body..]) {
