@@ -1,3 +1,4 @@
 mod PendingLemmas
 mod ResumingLemmas
 mod SlotLemmas
+mod SlotLoopLemmas

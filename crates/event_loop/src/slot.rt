@@ -78,23 +78,13 @@ fn give_back<R: Wait + HostTime, D: Acceptor, C: Clock, K: Keeper + Drop, G: Gat
     door.is_settled()
 }
 
-/// Asks the acceptor of a free slot for its next connection. Where there is no memory to serve it,
-/// it is given back at once, and there is one sweep, at the moment that the clock gives next.
-pub(crate) fn accept_on<
-    R: Wait + HostTime,
-    D: Acceptor,
-    C: Clock,
-    K: Keeper + Drop,
-    G: Gate,
-    N: Notes,
->(
-    rt: &R,
+/// Asks the acceptor of a free slot for its next connection. What the connection needs is taken
+/// before it is accepted: where there is no memory nobody is asked, and who comes waits.
+pub(crate) fn accept_on<D: Acceptor, C: Clock, K: Keeper + Drop>(
     alloc: Global,
     store: &Store<K>,
     worker: &mut Worker<D, C, K>,
     state: &mut SlotState<D::Peer>,
-    gate: &G,
-    notes: &N,
 ) -> SlotLook
     requires { IsSlot (record {
       means = record { door = D.told; faults = D.faults; clock = C.told };
@@ -112,25 +102,14 @@ pub(crate) fn accept_on<
         SlotState::Closing | SlotState::Serving(_, _) => return SlotLook::Waits,
         SlotState::Closed => return SlotLook::Closed,
     }
-    let Some(pass) = &mut worker.pass else {
-        return SlotLook::Closed;
+    let Ok(stream) = Box::new(alloc, ResumableStream::new(alloc)) else {
+        return SlotLook::Free;
     };
-    let (door, clock) = (&mut worker.door, &mut worker.clock);
-    match door.accept() {
-        Ok(Incoming::Peer(peer)) => match Box::new(alloc, ResumableStream::new(alloc)) {
-            Ok(stream) => {
-                *state = SlotState::Serving(peer, stream);
-                SlotLook::Accepted
-            }
-            Err(_) => {
-                let end = StreamEnd::NoMemory;
-                if give_back(rt, store, door, clock, pass, peer, end, gate, notes) {
-                    return SlotLook::Freed;
-                }
-                *state = SlotState::Closing;
-                SlotLook::Waits
-            }
-        },
+    match worker.door.accept() {
+        Ok(Incoming::Peer(peer)) => {
+            *state = SlotState::Serving(peer, stream);
+            SlotLook::Accepted
+        }
         Ok(Incoming::NotReady) => SlotLook::Free,
         Ok(Incoming::Nobody) => {
             *state = SlotState::Closed;

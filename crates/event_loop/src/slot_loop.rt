@@ -62,8 +62,8 @@ impl SlotLists {
     fn note(&mut self, number: usize, look: SlotLook) {
         match look {
             SlotLook::Accepted | SlotLook::Again => put(&mut self.again, number),
-            SlotLook::Waits => {}
-            SlotLook::Free => {
+            SlotLook::Waits | SlotLook::Free => {}
+            SlotLook::Freed => {
                 put(&mut self.free, number);
                 self.newcomers = true;
             }
@@ -203,9 +203,7 @@ fn look_at_ready<
                 let look = serve_at(
                     rt, store, workers, states, number, buf, text, may_end, gate, notes,
                 );
-                if look != SlotLook::Free {
-                    lists.note(number, look);
-                }
+                lists.note(number, look);
             }
             Some(Ready::Newcomer) => lists.newcomers = true,
             None => return,
@@ -238,4 +236,110 @@ fn look_again<R: Wait + HostTime, D: Acceptor, C: Clock, K: Keeper + Drop, G: Ga
         );
         lists.note(number, look);
     }
+}
+
+/// Gives a newcomer a free slot: one a turn, so that the threads share them.
+fn admit<D: Acceptor, C: Clock, K: Keeper + Drop>(
+    alloc: Global,
+    store: &Store<K>,
+    workers: &mut [Worker<D, C, K>],
+    states: &mut [SlotState<D::Peer>],
+    lists: &mut SlotLists,
+)
+    requires slots { AreSlots (slot_means_of D.Acceptor D.Peer.Peer C.Clock) store.now
+        workers.old states.old }
+    ensures keep { KeepSlots (slot_means_of D.Acceptor D.Peer.Peer C.Clock) store.now
+        workers.old states.old workers.new states.new }
+{
+    let Some(number) = lists.free.pop() else {
+        lists.newcomers = false;
+        return;
+    };
+    let look = accept_at(alloc, store, workers, states, number);
+    if look == SlotLook::Free {
+        put(&mut lists.free, number);
+        lists.newcomers = false;
+    } else {
+        lists.note(number, look);
+    }
+}
+
+/// One turn: waits for those that may be ready, and looks at them, at those that were to be looked
+/// at again, and at one newcomer.
+fn take_turn<
+    R: Wait + HostTime,
+    W: Poller,
+    D: Acceptor,
+    C: Clock,
+    K: Keeper + Drop,
+    G: Gate,
+    N: Notes,
+>(
+    rt: &R,
+    alloc: Global,
+    store: &Store<K>,
+    poller: &mut W,
+    workers: &mut [Worker<D, C, K>],
+    room: &mut SlotRoom<D::Peer>,
+    gate: &G,
+    notes: &N,
+)
+    requires slots { AreSlots (slot_means_of D.Acceptor D.Peer.Peer C.Clock) store.now
+        workers.old room.old.states.items }
+    ensures keep { KeepSlots (slot_means_of D.Acceptor D.Peer.Peer C.Clock) store.now
+        workers.old room.old.states.items workers.new room.new.states.items }
+{
+    let SlotRoom {
+        states,
+        lists,
+        buf,
+        text,
+    } = room;
+    let is_busy = lists.newcomers || !lists.again.is_empty();
+    poller.wait(rt, if is_busy { 0 } else { LONGEST_WAIT });
+    swap(&mut lists.again, &mut lists.turn);
+    look_at_ready(
+        rt, store, poller, workers, states, lists, buf, text, gate, notes,
+    );
+    look_again(rt, store, workers, states, lists, buf, text, gate, notes);
+    if lists.newcomers {
+        admit(alloc, store, workers, states, lists);
+    }
+}
+
+/// The workers serve the connections of their acceptors side by side, in this one thread, until no
+/// slot will have a connection any more.
+pub(crate) fn serve_slots<
+    R: Wait + HostTime,
+    W: Poller,
+    D: Acceptor,
+    C: Clock,
+    K: Keeper + Drop,
+    G: Gate,
+    N: Notes,
+>(
+    rt: &R,
+    alloc: Global,
+    store: &Store<K>,
+    poller: &mut W,
+    workers: &mut [Worker<D, C, K>],
+    room: SlotRoom<D::Peer>,
+    gate: &G,
+    notes: &N,
+)
+    requires passes { All (λ w. HasPassOf store.now w.pass) workers.old }
+    requires free { AreFree room.states.items }
+    requires count { length room.states.items ≡ length workers.old }
+    ensures as_long { length workers.new ≡ length workers.old }
+    ensures worked { HaveWorked (slot_means_of D.Acceptor D.Peer.Peer C.Clock).means
+        store.now workers.old workers.new }
+{
+    let mut room = room;
+    for _ in rt.forever() {
+        if room.lists.open == 0 && are_closed(&room.states) {
+            return;
+        }
+        take_turn(rt, alloc, store, poller, workers, &mut room, gate, notes);
+    }
+    unreachable!()
 }

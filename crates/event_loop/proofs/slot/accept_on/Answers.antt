@@ -5,8 +5,8 @@ use Rattle.event_loop.specs.IncomingPeers.{IfPeer}
 use Rattle.event_loop.proofs.SlotLemmas.{resumable-first, stands-accepted, stands-over, stands-failed, stands-free}
 use Rattle.event_loop.proofs.slot.accept_on.Goals as goal
 
-pub returns-in-Ok-Ok : goal.returns-in-Ok-Ok
-returns-in-Ok-Ok g c = λ first s.
+pub returns-in-Ok-Peer : goal.returns-in-Ok-Peer
+returns-in-Ok-Peer g c = λ first s.
     let told = g.D.Acceptor.told in
     let old = c.args.worker.now.door in
     let new = c.accept.new.self in
@@ -16,7 +16,7 @@ returns-in-Ok-Ok g c = λ first s.
       source_faults = g.D.Peer.Peer.source_faults p;
       sink_faults = g.D.Peer.Peer.sink_faults p;
     }) in
-    stands-accepted _ c.args.store.now first c.args.worker.now _ c.args.state.now s (sym c.in-Some.is) refl
+    stands-accepted _ c.args.store.now first c.args.worker.now _ c.args.state.now s refl refl
     c.in-Ok-Peer.peer c.in-Ok.stream c.in-Free.is c.in-Ok-Peer.ensures.count
     (subst (λ o. IfPeer o (λ p. HandsOut (told old) (told new) (wire p))) c.in-Ok-Peer.field-0-is
     c.in-Ok-Peer.ensures.peer)
@@ -26,17 +26,17 @@ returns-in-Ok-Ok g c = λ first s.
 
 pub returns-in-Ok-NotReady : goal.returns-in-Ok-NotReady
 returns-in-Ok-NotReady g c = λ first s.
-    stands-free _ c.args.store.now first c.args.worker.now _ c.args.state.now s (sym c.in-Some.is) refl
+    stands-free _ c.args.store.now first c.args.worker.now _ c.args.state.now s refl refl
     c.in-Free.is (c.in-Ok-NotReady.ensures.not_ready c.in-Ok-NotReady.field-0-is)
     c.in-Ok-NotReady.ensures.count
 
 pub returns-in-Ok-Nobody : goal.returns-in-Ok-Nobody
 returns-in-Ok-Nobody g c = λ first s.
     let shut = c.in-Ok-Nobody.ensures.nobody c.in-Ok-Nobody.field-0-is in
-    stands-over _ c.args.store.now first c.args.worker.now _ c.args.state.now s (sym c.in-Some.is) refl
+    stands-over _ c.args.store.now first c.args.worker.now _ c.args.state.now s refl refl
     c.in-Free.is refl shut.1 c.in-Ok-Nobody.ensures.count shut.0
 
 pub returns-in-Err : goal.returns-in-Err
 returns-in-Err g c = λ first s.
-    stands-failed _ c.args.store.now first c.args.worker.now _ c.args.state.now s (sym c.in-Some.is) refl
+    stands-failed _ c.args.store.now first c.args.worker.now _ c.args.state.now s refl refl
     c.in-Free.is refl c.in-Err.ensures.failed c.in-Err.ensures.cause.failed c.in-Err.ensures.cause.later

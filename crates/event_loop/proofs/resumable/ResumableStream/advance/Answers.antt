@@ -35,3 +35,16 @@ loop-preserved g c =
           c.args.self.now c.loop.self c.step-step.new.self (sym c.in-None.ensures) inv.leads
           step.leads;
     }
+
+pub returns-in-Some-clause-leads : goal.returns-in-Some-clause-leads
+returns-in-Some-clause-leads g c =
+    let told = g.C.Clock.told in
+    let store = c.args.store.now in
+    advanced-is c.step-step.result c.in-Some.advanced
+    (standing (wire_of g.P.Peer c.args.peer.now)
+    (caller_with store c.args.pass.now (told c.args.clock.now)))
+    (standing (wire_of g.P.Peer c.loop.peer) (caller_with store c.loop.pass (told c.loop.clock)))
+    (standing (wire_of g.P.Peer c.step-step.new.peer)
+    (caller_with store c.step-step.new.pass (told c.step-step.new.clock)))
+    c.args.self.now c.loop.self c.step-step.new.self (sym c.in-Some.ensures)
+    c.loop.invariant.leads c.step-step.ensures.leads

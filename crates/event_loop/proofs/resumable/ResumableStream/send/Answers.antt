@@ -1,4 +1,6 @@
-use Rattle.std.proofs.Common.{refl}
+use Rattle.std.proofs.Common.{refl, subst, sym}
+use Rattle.event_loop.specs.declared.resumable.Pending.TheVariants as pendings
+use Rattle.event_loop.specs.Resuming.{StreamStands, standing}
 use Rattle.event_loop.specs.PeerWires.{wire_of}
 use Rattle.event_loop.proofs.PendingLemmas.{wrote-more}
 use Rattle.event_loop.proofs.ResumingLemmas.{reply-on, reply-sent, bad-on, bad-sent}
@@ -34,12 +36,15 @@ returns-else-not-is_sent-clause-leads g c = λ who first t.
     let new = wire_of g.P.Peer c.send.new.peer in
     let sent = c.in-Some.ensures.some refl in
     let send = c.send.ensures in
-    reply-sent first old new who c.args.self.now _ refl refl
+    subst (λ p. StreamStands first (standing new who) (record c.args.self.now { pending = p }))
+    (sym c.replace.ensures.after)
+    (reply-sent first old new who c.args.self.now
+    (record c.args.self.now { pending = pendings.Nothing }) refl refl
     (record { source = send.source; source_count = send.source_count; sink_count = send.faults })
     c.in-Reply.unsent c.send.new.self c.in-Reply.is refl send.reply
     (c.if-not-is_sent.ensures.sent refl)
     (λ heard w. wrote-more first.wire.sink old.sink new.sink heard c.in-Reply.unsent c.send.new.self
-    sent.0 w sent.1 sent.2 send.reply sent.3) t
+    sent.0 w sent.1 sent.2 send.reply sent.3) t)
 
 pub returns-else-not-is_sent-2-clause-leads : goal.returns-else-not-is_sent-2-clause-leads
 returns-else-not-is_sent-2-clause-leads g c = λ who first t.
