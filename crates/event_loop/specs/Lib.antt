@@ -4,3 +4,4 @@ pub mod IncomingPeers
 pub mod PendingReplies
 pub mod Resuming
 pub mod Slots
+pub mod SlotLoops

@@ -6,9 +6,12 @@ mod acceptor;
 mod answering;
 mod peer;
 mod peer_piece;
+mod poller;
 mod resumable;
 mod slot;
+mod slot_loop;
 mod unsent;
 
 pub use acceptor::{Acceptor, Incoming};
 pub use peer::{Peer, PeerRead};
+pub use poller::{Poller, Ready};

@@ -16,5 +16,5 @@ pub use door::{Conn, Door, StreamEnd};
 pub use memory_door::{GivenBack, MemoryDoor};
 pub use one_stream::{serve_stream, serve_stream_noted};
 pub use owed::{Owed, owed_for};
-pub use tcp_door::TcpDoor;
+pub use tcp_door::{TcpDoor, failure_passes};
 pub use worker::Worker;

@@ -1,0 +1,2 @@
+pub mod SocketPeers
+pub mod SocketAcceptors
