@@ -1,4 +1,5 @@
-use Rattle.std.proofs.Common.{refl, subst, sym}
+use Rattle.std.proofs.Common.{refl, subst, ap, ◌∙◌}
+use Rattle.event_loop.specs.declared.resumable.ResumableStream.{ResumableStream}
 use Rattle.stream_server.specs.Connections.{Wire}
 use Rattle.stream_server.specs.Doors.{HandsOut}
 use Rattle.event_loop.specs.IncomingPeers.{IfPeer}
@@ -16,13 +17,17 @@ returns-in-Ok-Peer g c = λ first s.
       source_faults = g.D.Peer.Peer.source_faults p;
       sink_faults = g.D.Peer.Peer.sink_faults p;
     }) in
+    let boxed = c.in-Ok.ensures.ok in
+    let reader = ap (λ (t : ResumableStream). t.stream.reader) boxed ∙ c.new.ensures.reader in
+    let left = ap (λ (t : ResumableStream). t.left) boxed ∙ c.new.ensures.left in
+    let pending = ap (λ (t : ResumableStream). t.pending) boxed ∙ c.new.ensures.pending in
     stands-accepted _ c.args.store.now first c.args.worker.now _ c.args.state.now s refl refl
     c.in-Ok-Peer.peer c.in-Ok.stream c.in-Free.is c.in-Ok-Peer.ensures.count
     (subst (λ o. IfPeer o (λ p. HandsOut (told old) (told new) (wire p))) c.in-Ok-Peer.field-0-is
     c.in-Ok-Peer.ensures.peer)
     (subst (λ o. IfPeer o (λ _. g.D.Acceptor.has_room new)) c.in-Ok-Peer.field-0-is
-    c.in-Ok-Peer.ensures.room) c.new.ensures.reader c.new.ensures.left c.new.ensures.pending
-    (resumable-first c.new.result c.new.ensures.reader c.new.ensures.pending)
+    c.in-Ok-Peer.ensures.room) reader left pending
+    (resumable-first c.in-Ok.stream.value reader pending)
 
 pub returns-in-Ok-NotReady : goal.returns-in-Ok-NotReady
 returns-in-Ok-NotReady g c = λ first s.

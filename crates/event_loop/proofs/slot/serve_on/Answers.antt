@@ -1,5 +1,7 @@
+use Rattle.std.specs.Box.{with_value}
 use Rattle.std.proofs.Common.{refl, sym, ◌∙◌, inl, inr, subst}
-use Rattle.event_loop.specs.Resuming.{Continues, EndsStream}
+use Rattle.event_loop.specs.PeerWires.{wire_of}
+use Rattle.event_loop.specs.Resuming.{Continues, EndsStream, standing}
 use Rattle.stream_server.specs.Callers.{caller_with}
 use Rattle.event_loop.specs.declared.slot.SlotState.TheVariants.{Closing}
 use Rattle.event_loop.proofs.SlotLemmas.{stands-still, stands-stream, stands-served, stands-settling}
@@ -20,19 +22,29 @@ pub returns-in-Waits-clause-keeps : goal.returns-in-Waits-clause-keeps
 returns-in-Waits-clause-keeps g c = λ first s.
     stands-stream _ c.args.store.now first c.args.worker.now _ c.args.state.now s c.in-Some.pass
     c.advance.new.pass c.in-Some.is refl c.in-Waits.ensures.pass c.in-Waits.ensures.caller
-    c.in-Serving.peer c.advance.new.peer c.in-Serving.stream c.deref_mut.new.self
+    c.in-Serving.peer c.advance.new.peer c.in-Serving.stream
+    (with_value c.in-Serving.stream c.advance.new.self)
     (sym c.replace.ensures.value ∙ c.in-Serving.is) refl c.in-Waits.ensures.resumable
-    (subst (λ t. Continues _ _ t c.advance.new.self) c.deref_mut.ensures.value
-    c.in-Waits.ensures.leads)
+    (subst (λ t. Continues
+    (standing (wire_of g.D.Peer.Peer c.in-Serving.peer)
+    (caller_with c.args.store.now c.in-Some.pass (g.C.Clock.told c.args.worker.now.clock)))
+    (standing (wire_of g.D.Peer.Peer c.advance.new.peer)
+    (caller_with c.args.store.now c.advance.new.pass (g.C.Clock.told c.advance.new.clock)))
+    t c.advance.new.self) c.deref_mut.ensures.value c.in-Waits.ensures.leads)
 
 pub returns-in-Again-clause-keeps : goal.returns-in-Again-clause-keeps
 returns-in-Again-clause-keeps g c = λ first s.
     stands-stream _ c.args.store.now first c.args.worker.now _ c.args.state.now s c.in-Some.pass
     c.advance.new.pass c.in-Some.is refl c.in-Again.ensures.pass c.in-Again.ensures.caller
-    c.in-Serving.peer c.advance.new.peer c.in-Serving.stream c.deref_mut.new.self
+    c.in-Serving.peer c.advance.new.peer c.in-Serving.stream
+    (with_value c.in-Serving.stream c.advance.new.self)
     (sym c.replace.ensures.value ∙ c.in-Serving.is) refl c.in-Again.ensures.resumable
-    (subst (λ t. Continues _ _ t c.advance.new.self) c.deref_mut.ensures.value
-    c.in-Again.ensures.leads)
+    (subst (λ t. Continues
+    (standing (wire_of g.D.Peer.Peer c.in-Serving.peer)
+    (caller_with c.args.store.now c.in-Some.pass (g.C.Clock.told c.args.worker.now.clock)))
+    (standing (wire_of g.D.Peer.Peer c.advance.new.peer)
+    (caller_with c.args.store.now c.advance.new.pass (g.C.Clock.told c.advance.new.clock)))
+    t c.advance.new.self) c.deref_mut.ensures.value c.in-Again.ensures.leads)
 
 pub returns-then-is_settled-clause-keeps : goal.returns-then-is_settled-clause-keeps
 returns-then-is_settled-clause-keeps g c = λ first s.
@@ -55,7 +67,12 @@ returns-then-give_back-clause-keeps g c = λ first s.
     c.in-Serving.peer c.advance.new.peer c.in-Serving.stream c.in-Over.end
     (caller_with c.args.store.now c.advance.new.pass (g.C.Clock.told c.advance.new.clock))
     (sym c.replace.ensures.value ∙ c.in-Serving.is)
-    (subst (λ t. EndsStream c.in-Over.end _ _ t) c.deref_mut.ensures.value
+    (subst (λ t. EndsStream c.in-Over.end
+    (standing (wire_of g.D.Peer.Peer c.in-Serving.peer)
+    (caller_with c.args.store.now c.in-Some.pass (g.C.Clock.told c.args.worker.now.clock)))
+    (standing (wire_of g.D.Peer.Peer c.advance.new.peer)
+    (caller_with c.args.store.now c.advance.new.pass (g.C.Clock.told c.advance.new.clock))) t)
+    c.deref_mut.ensures.value
     c.in-Over.ensures.leads) gave.back gave.count
     gave.swept c.replace.new.dest (inl c.replace.ensures.after)
 
@@ -67,6 +84,11 @@ returns-else-give_back-clause-keeps g c = λ first s.
     c.in-Serving.peer c.advance.new.peer c.in-Serving.stream c.in-Over.end
     (caller_with c.args.store.now c.advance.new.pass (g.C.Clock.told c.advance.new.clock))
     (sym c.replace.ensures.value ∙ c.in-Serving.is)
-    (subst (λ t. EndsStream c.in-Over.end _ _ t) c.deref_mut.ensures.value
+    (subst (λ t. EndsStream c.in-Over.end
+    (standing (wire_of g.D.Peer.Peer c.in-Serving.peer)
+    (caller_with c.args.store.now c.in-Some.pass (g.C.Clock.told c.args.worker.now.clock)))
+    (standing (wire_of g.D.Peer.Peer c.advance.new.peer)
+    (caller_with c.args.store.now c.advance.new.pass (g.C.Clock.told c.advance.new.clock))) t)
+    c.deref_mut.ensures.value
     c.in-Over.ensures.leads) gave.back gave.count
     gave.swept Closing (inr refl)
