@@ -59,7 +59,9 @@ impl SlotLists {
     }
 
     /// Notes what came of a look at a slot.
-    fn note(&mut self, number: usize, look: SlotLook) {
+    fn note(&mut self, number: usize, look: SlotLook)
+        ensures { self.new.turn ≡ self.old.turn }
+    {
         match look {
             SlotLook::Accepted | SlotLook::Again => put(&mut self.again, number),
             SlotLook::Waits | SlotLook::Free => {}

@@ -3,7 +3,7 @@ use Rattle.event_loop.proofs.SlotLoopLemmas.{slot_at, keep-one}
 use Rattle.event_loop.proofs.slot_loop.serve_at.Goals as goal
 
 pub serve_on-requires-clause-slot : goal.serve_on-requires-clause-slot
-serve_on-requires-clause-slot g c =
+serve_on-requires-clause-slot g c = λ lifetimes outlives.
     slot_at _ c.args.store.now c.args.workers.now c.args.states.now c.args.at
     c.index-workers-at.result c.index-states-at.result (omega (arith, c.if-at-workers.false))
     c.requires.slots
